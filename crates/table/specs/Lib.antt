@@ -1,0 +1,4 @@
+pub mod Table
+pub mod Condition
+pub mod Refusal
+pub mod Row

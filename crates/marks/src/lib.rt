@@ -3,7 +3,7 @@
 ghost use mathlib.Core.Path.{_≡_};
 ghost use mathlib.Core.Bool.{true};
 ghost use mathlib.Core.Logic.{_↔_};
-ghost use Rattle.marks.specs.Mark.{has, union, Meets, Covers, firstMarks, width};
+ghost use Rattle.marks.specs.Mark.{has, union, without, Meets, Covers, firstMarks, width};
 
 // A set of marks, and how many marks one can hold. specs/Mark.antt has the same number, as `width`.
 pub type Marks = u32;
@@ -25,6 +25,13 @@ pub fn join(a: Marks, b: Marks) -> Marks
     ensures { λ r. ⌜ r ≡ union a b ⌝ }
 {
     a | b
+}
+
+// The marks of the first set that the second has not.
+pub fn leave(a: Marks, b: Marks) -> Marks
+    ensures { λ r. ⌜ r ≡ without a b ⌝ }
+{
+    a & b ^ a
 }
 
 // Whether some mark is in both sets.

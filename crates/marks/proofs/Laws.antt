@@ -6,7 +6,7 @@ use native.Mathlib.Nat.{pow-suc, div-eq-of-lt, lt-of-lt-of-le, sub-add-cancel, l
 use native.Mathlib.Numerals.{one-add}
 use native.Mathlib.Omega.{arith}
 use lib.Bits.{bitAnd, bitOr, bitXor, differ, and-step, or-step, xor-step, and-shr, or-shr, xor-shr, or-lt}
-use lib.Pow.{pow-pos, pow-mono, shr-shr, high, ones-split, ones-lt}
+use lib.Pow.{pow-pos, pow-mono, pow-lt, pow-add, shl-shr, shr-shr, high, ones-split, ones-lt}
 use lib.Arith.{bin-ind}
 use Rattle.marks.specs.Mark.{has, union, without, Meets, Covers, firstMarks}
 use Rattle.marks.proofs.Cases.{same, below}
@@ -168,6 +168,31 @@ has-first w i k = (to, from)
 
     from : (i < k) × (i < w) → has i (2 ^ min k w - 1)
     from l = has-ones i (min k w) .1 (omega (arith, l .0, l .1))
+
+-- ---- one mark alone
+
+-- the set of mark j alone has exactly that mark
+pub has-power : (i j : ℕ) → has i (2 ^ j) ↔ (i ≡ j)
+unfolding has
+has-power i j = (to, from)
+  where
+    shifted : i ≤ j → 2 ^ j / 2 ^ i ≡ 2 ^ (j - i)
+    shifted l =
+        let e : (j - i) + i ≡ j = omega arith in
+        ap (λ (n : ℕ). 2 ^ n / 2 ^ i) (sym e) ∙ ap (λ (x : ℕ). x / 2 ^ i) (pow-add 2 (j - i) i) ∙ shl-shr (2 ^ (j - i)) i
+
+    to : 2 ^ j / 2 ^ i % 2 ≡ 1 → i ≡ j
+    to h =
+        below j i
+        (λ l. absurd (omega (arith, div-eq-of-lt (pow-lt l))))
+        (λ l. same i j (λ q. q) (λ q.
+          let e : suc (j - i - 1) ≡ j - i = omega arith in
+          absurd (omega (arith, shifted l, ap (λ (n : ℕ). 2 ^ n) e, pow-suc 2 (j - i - 1)))))
+
+    from : i ≡ j → 2 ^ j / 2 ^ i % 2 ≡ 1
+    from q =
+        let e : j - i ≡ 0 = omega arith in
+        ap (λ (x : ℕ). x % 2) (shifted (omega arith) ∙ ap (λ (n : ℕ). 2 ^ n) e)
 
 -- ---- what fits a word
 

@@ -1,3 +1,5 @@
 pub mod Fields
 pub mod Carry
 pub mod Counting
+pub mod Stores
+pub mod Queue

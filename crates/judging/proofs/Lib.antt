@@ -3,3 +3,4 @@ pub mod Carry
 pub mod Counting
 pub mod Stores
 pub mod Queue
+pub mod Scan

@@ -4,3 +4,6 @@ pub mod Counting
 pub mod Stores
 pub mod Queue
 pub mod Scan
+pub mod BadPairs
+pub mod Sizes
+pub mod Unions

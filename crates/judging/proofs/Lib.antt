@@ -1,9 +1,11 @@
-pub mod Fields
+pub mod BadPairs
 pub mod Carry
 pub mod Counting
-pub mod Stores
+pub mod Fields
+pub mod Frames
+pub mod Judges
 pub mod Queue
 pub mod Scan
-pub mod BadPairs
 pub mod Sizes
+pub mod Stores
 pub mod Unions

@@ -3,6 +3,7 @@ pub mod Carry
 pub mod Counting
 pub mod Fields
 pub mod Frames
+pub mod Hunts
 pub mod Judges
 pub mod Queue
 pub mod Scan

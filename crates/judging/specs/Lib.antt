@@ -6,3 +6,7 @@ pub mod Reach
 pub mod Tied
 pub mod Judgement
 pub mod Searching
+pub mod Answer
+pub mod Hunt
+pub mod Reaching
+pub mod Tying

@@ -1,1 +1,6 @@
 pub mod Fields
+pub mod Carry
+pub mod Counting
+pub mod Stores
+pub mod Queue
+pub mod Scan

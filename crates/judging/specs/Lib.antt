@@ -4,3 +4,4 @@ pub mod Search
 pub mod Parts
 pub mod Reach
 pub mod Tied
+pub mod Searching

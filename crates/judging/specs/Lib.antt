@@ -5,3 +5,4 @@ pub mod Parts
 pub mod Reach
 pub mod Tied
 pub mod Searching
+pub mod Reaching

@@ -6,3 +6,4 @@ pub mod Reach
 pub mod Tied
 pub mod Searching
 pub mod Reaching
+pub mod Tying

@@ -6,3 +6,6 @@ pub mod Queue
 pub mod Scan
 pub mod Sizes
 pub mod Reaching
+pub mod Inside
+pub mod Collecting
+pub mod Tying

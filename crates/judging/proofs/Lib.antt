@@ -4,3 +4,4 @@ pub mod Counting
 pub mod Stores
 pub mod Queue
 pub mod Scan
+pub mod Way

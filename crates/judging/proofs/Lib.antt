@@ -5,3 +5,4 @@ pub mod Stores
 pub mod Queue
 pub mod Scan
 pub mod Way
+pub mod Leg

@@ -4,6 +4,8 @@ pub mod Counting
 pub mod Stores
 pub mod Queue
 pub mod Scan
+pub mod Way
+pub mod Leg
 pub mod Sizes
 pub mod Reaching
 pub mod Inside

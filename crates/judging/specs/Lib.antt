@@ -2,3 +2,4 @@ pub mod Cells
 pub mod Region
 pub mod Search
 pub mod Parts
+pub mod Cutting

@@ -1,3 +1,5 @@
 pub mod Fields
 pub mod Frames
 pub mod Swaps
+pub mod Walks
+pub mod Cuts

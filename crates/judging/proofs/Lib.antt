@@ -3,3 +3,4 @@ pub mod Frames
 pub mod Swaps
 pub mod Walks
 pub mod Cuts
+pub mod Looks

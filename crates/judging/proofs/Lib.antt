@@ -4,3 +4,4 @@ pub mod Swaps
 pub mod Walks
 pub mod Cuts
 pub mod Looks
+pub mod Pushes

@@ -5,3 +5,5 @@ pub mod Walks
 pub mod Cuts
 pub mod Looks
 pub mod Pushes
+pub mod Merges
+pub mod Finish

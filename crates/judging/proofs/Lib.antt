@@ -7,3 +7,4 @@ pub mod Looks
 pub mod Pushes
 pub mod Merges
 pub mod Finish
+pub mod Scans

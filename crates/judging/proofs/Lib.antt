@@ -8,3 +8,4 @@ pub mod Pushes
 pub mod Merges
 pub mod Finish
 pub mod Scans
+pub mod Steps

@@ -1,5 +1,6 @@
 pub mod Answer
 pub mod Cells
+pub mod Cutting
 pub mod Hunt
 pub mod Judgement
 pub mod Parts

@@ -3,6 +3,7 @@ pub mod Carry
 pub mod Collecting
 pub mod Counting
 pub mod Cuts
+pub mod Deciding
 pub mod Fields
 pub mod Finish
 pub mod Frames

@@ -1,3 +1,4 @@
+pub mod Answering
 pub mod BadPairs
 pub mod Carry
 pub mod Collecting
@@ -10,6 +11,7 @@ pub mod Frames
 pub mod Hunts
 pub mod Inside
 pub mod Judges
+pub mod Largest
 pub mod Leg
 pub mod Looks
 pub mod Merges

@@ -1,0 +1,4 @@
+pub mod Climb
+pub mod Place
+pub mod Translated
+pub mod Outcome

@@ -99,10 +99,10 @@ same-marks =
     bin-ind (λ (a : ℕ). (b : ℕ) → ((i : ℕ) → has i a → has i b) → ((i : ℕ) → has i b → has i a) → a ≡ b)
     (λ b f g. sym (no-marks b (λ i h. has-none i (g i h))))
     (λ a more b f g.
-      let halves : a / 2 ≡ b / 2 = more (b / 2) (λ i h. half-has b i (f (suc i) (has-half a i h))) (λ i h. half-has a i (g (suc i) (has-half b i h))) in
-      same (a % 2) 1
-      (λ q. let r : b % 2 ≡ 1 = low-has b (f 0 (has-low a q)) in omega arith)
-      (λ q. same (b % 2) 1 (λ r. absurd (q (low-has a (g 0 (has-low b r))))) (λ r. omega arith)))
+    let halves : a / 2 ≡ b / 2 = more (b / 2) (λ i h. half-has b i (f (suc i) (has-half a i h))) (λ i h. half-has a i (g (suc i) (has-half b i h))) in
+    same (a % 2) 1
+    (λ q. let r : b % 2 ≡ 1 = low-has b (f 0 (has-low a q)) in omega arith)
+    (λ q. same (b % 2) 1 (λ r. absurd (q (low-has a (g 0 (has-low b r))))) (λ r. omega arith)))
 
 -- one set covers another exactly if their common digits are the other's
 pub covers-and : (a b : ℕ) → (bitAnd a b ≡ b) ↔ Covers a b

@@ -1,4 +1,5 @@
 pub mod Climb
 pub mod Place
 pub mod Translated
+pub mod Writing
 pub mod Outcome

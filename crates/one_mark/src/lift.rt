@@ -1,8 +1,12 @@
-// Writes the translated edges: climbs, then levels, then rows, then the whole table.
+// Writes the translated edges: climbs, then the levels of a row, then the rows, then the whole table.
+// Relies on `table` for the rows. What the three outputs hold is in specs/Translated.antt, what each function asks in specs/Writing.antt.
 ghost use mathlib.Core.Path.{_≡_};
-ghost use Prim.Native.Nat.{_≤_, _<_, _*_};
+ghost use mathlib.Core.List.{List};
+ghost use Prim.Native.Nat.{ℕ, _+_, _*_, _≤_, _<_};
+ghost use lib.ListN.{length};
 ghost use Rattle.marks.specs.Mark.{width};
 ghost use Rattle.one_mark.specs.Climb.{levels, number, reached, landing, bearing};
+ghost use Rattle.one_mark.specs.Writing.{Ladder, Room, RowAsked, LevelWritten, RowWritten};
 
 // What all of a translation goes by: the number of states, the number k of marks and the number K of levels.
 pub(crate) struct Shape {
@@ -51,4 +55,74 @@ fn land(marks: u32, level: u32, k: u32) -> Landing
         return Landing { level: top, marks: 0 };
     }
     Landing { level: 0, marks: 1 }
+}
+
+// The number of a state at a level.
+pub(crate) fn number_of(state: u32, level: u32, shape: Shape) -> u32
+    requires { ⌜ Ladder (shape .states) (shape .k) (shape .levels) ⌝ }
+    requires { ⌜ (state < shape .states) × (level < shape .levels) ⌝ }
+    ensures { λ r. ⌜ r ≡ number (shape .k) state level ⌝ }
+{
+    state * shape.levels + level
+}
+
+// Writes the edges of a state's row, taken at one level, from place `at` on; answers with the place behind them.
+fn lift_level(
+    state: u32,
+    level: u32,
+    shape: Shape,
+    to: &[u32],
+    marks: &[u32],
+    at: usize,
+    leaves: &mut [u32],
+    arrives: &mut [u32],
+    bears: &mut [u32],
+) -> usize
+    requires { ⌜ Ladder (shape .states) (shape .k) (shape .levels) ⌝ }
+    requires { ⌜ level < shape .levels ⌝ }
+    requires { ⌜ RowAsked (shape .states) state (now to) (now marks) ⌝ }
+    requires { ⌜ Room at (length (now to)) (now leaves) (now arrives) (now bears) ⌝ }
+    ensures { λ r. ⌜ r ≡ at + length (now (to .entry)) ⌝ }
+    ensures { λ r. ⌜ LevelWritten (shape .k) state level at (now (to .entry)) (now (marks .entry)) (now (leaves .entry)) (now (arrives .entry)) (now (bears .entry)) (now (leaves .exit)) (now (arrives .exit)) (now (bears .exit)) ⌝ }
+{
+    let k = shape.k;
+    let leaving = number_of(state, level, shape);
+    let mut i = 0;
+    while i < to.len() {
+        let landing = land(marks[i], level, k);
+        let arriving = number_of(to[i], landing.level, shape);
+        let place = at + i;
+        leaves[place] = leaving;
+        arrives[place] = arriving;
+        bears[place] = landing.marks;
+        i += 1;
+    }
+    at + i
+}
+
+// Writes the edges of a state's row, level by level, from place `at` on; answers with the place behind them.
+fn lift_row(
+    state: u32,
+    shape: Shape,
+    to: &[u32],
+    marks: &[u32],
+    at: usize,
+    leaves: &mut [u32],
+    arrives: &mut [u32],
+    bears: &mut [u32],
+) -> usize
+    requires { ⌜ Ladder (shape .states) (shape .k) (shape .levels) ⌝ }
+    requires { ⌜ RowAsked (shape .states) state (now to) (now marks) ⌝ }
+    requires { ⌜ Room at (shape .levels * length (now to)) (now leaves) (now arrives) (now bears) ⌝ }
+    ensures { λ r. ⌜ r ≡ at + shape .levels * length (now (to .entry)) ⌝ }
+    ensures { λ r. ⌜ RowWritten (shape .k) state (shape .levels) at (now (to .entry)) (now (marks .entry)) (now (leaves .entry)) (now (arrives .entry)) (now (bears .entry)) (now (leaves .exit)) (now (arrives .exit)) (now (bears .exit)) ⌝ }
+{
+    let levels = shape.levels;
+    let mut place = at;
+    let mut level = 0;
+    while level < levels {
+        place = lift_level(state, level, shape, to, marks, place, leaves, arrives, bears);
+        level += 1;
+    }
+    place
 }

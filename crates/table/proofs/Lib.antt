@@ -1,1 +1,5 @@
+pub mod Faults
+pub mod Needs
+pub mod Rows
+pub mod Shifts
 pub mod Walks

@@ -2,3 +2,4 @@ pub mod Table
 pub mod Condition
 pub mod Refusal
 pub mod Row
+pub mod Shifts

@@ -1,5 +1,15 @@
 // What a table is, and rows 1 to 7 of document 01: one exact check of a lent table, and the rows of a table.
 // Relies on the crate `marks`. The meaning of tables, walks, lassos and conditions is in specs/.
+mod condition;
+mod edges;
+pub mod row;
+
+ghost use mathlib.Core.Path.{_≡_};
+ghost use Rattle.table.specs.Table.{lent};
+ghost use Rattle.table.specs.Refusal.{refusal};
+
+pub const MOST_STATES: u32 = 4096;
+pub const MOST_EDGES: usize = 32768;
 
 // The condition: one of three cases with its number. Rabin's eight needs stand beside it.
 pub enum Acceptance {
@@ -28,4 +38,41 @@ pub enum Verdict {
 // The judge's answer.
 pub struct Answer {
     pub verdict: Verdict,
+}
+
+// Rows 1 to 7: the number and place of the first cause in the stated order, or that there is none.
+pub fn check(
+    n: u32,
+    start: u32,
+    from: &[u32],
+    to: &[u32],
+    marks: &[u32],
+    condition: Acceptance,
+    needs: [u32; 8],
+) -> Finding
+    ensures { λ r. ⌜ r ≡ refusal (lent n start (now (from .entry)) (now (to .entry)) (now (marks .entry))) condition needs ⌝ }
+{
+    if n == 0 {
+        return Finding::Refused { number: 1, place: 0 };
+    }
+    if MOST_STATES < n {
+        return Finding::Refused { number: 1, place: 0 };
+    }
+    if from.len() != to.len() {
+        return Finding::Refused { number: 2, place: 0 };
+    }
+    if from.len() != marks.len() {
+        return Finding::Refused { number: 2, place: 0 };
+    }
+    if MOST_EDGES < from.len() {
+        return Finding::Refused { number: 2, place: 0 };
+    }
+    if n <= start {
+        return Finding::Refused { number: 3, place: 0 };
+    }
+    if condition::wrong_condition(condition, needs) {
+        return Finding::Refused { number: 4, place: 0 };
+    }
+    let used = condition::used_marks(condition, needs);
+    edges::first_fault(n, start, from, to, marks, used)
 }

@@ -1,0 +1,4 @@
+pub mod Cells
+pub mod Region
+pub mod Search
+pub mod Parts

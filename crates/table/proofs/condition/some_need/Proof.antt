@@ -1,0 +1,65 @@
+-- `condition::some_need` meets its contract. The invariant: the needs from p on hold one that is not 0 exactly if those from i on do.
+-- The measure is what is left of the eight. Assumes nothing.
+use mathlib.Core.Path.{_≡_, refl, sym, ap, _∙_}
+use Prim.Native.Nat.{ℕ, _+_, _-_, _≤_}
+use lib.ListN.{length, drop}
+use Rattle.table.specs.Refusal.{someNeed}
+use Rattle.table.proofs.Needs.{need-found, need-passed, need-over}
+use borrow.Author.Needs.{needs}
+use native.Mathlib.Omega.{arith}
+use Rattle.table.proofs.condition.some_need.Statement.{statement}
+use Rattle.table.proofs.condition.some_need.Tie as tie
+
+abbrev Inv-loop : tie.InvT-loop
+Inv-loop p needs i₀ i = (i ≤ 8) × (someNeed (drop p needs) ≡ someNeed (drop i needs))
+
+abbrev μ-loop : tie.MeasureT-loop
+μ-loop p needs i₀ i = 8 - i
+
+loop-holds : tie.Need-loop-holds Inv-loop μ-loop
+loop-holds c = (c .pre, refl)
+
+mul-if1 : tie.Need-mul-if1 Inv-loop μ-loop
+mul-if1 c = search needs
+
+array-read-if1 : tie.Need-array-read-if1 Inv-loop μ-loop
+array-read-if1 c = search needs
+
+returns : tie.Need-returns Inv-loop μ-loop
+returns c =
+    let l = c .before .before in
+    let eight : length (l .before .args .t2) ≡ 8 = search needs in
+    sym (l .loop .inv .1 ∙ need-found (l .before .args .t2) (l .loop .i) (omega arith) (c .if1 .taken))
+
+add-i : tie.Need-add-i Inv-loop μ-loop
+add-i c = search needs
+
+loop-less : tie.Need-loop-less Inv-loop μ-loop
+loop-less c = search needs
+
+loop-again : tie.Need-loop-again Inv-loop μ-loop
+loop-again c =
+    let l = c .before .before in
+    let eight : length (l .before .args .t2) ≡ 8 = search needs in
+    (omega arith, l .loop .inv .1 ∙ need-passed (l .before .args .t2) (l .loop .i) (omega arith) (c .if1 .left))
+
+returns-2 : tie.Need-returns-2 Inv-loop μ-loop
+returns-2 c =
+    let l = c .before in
+    let eight : length (l .before .args .t2) ≡ 8 = search needs in
+    sym (l .loop .inv .1 ∙ need-over (l .before .args .t2) (l .loop .i) (omega arith))
+
+pub some-need-spec : {M : Type 1} → statement M
+some-need-spec =
+    tie.close
+    (tie.spec
+    Inv-loop
+    μ-loop
+    loop-holds
+    mul-if1
+    array-read-if1
+    returns
+    add-i
+    loop-less
+    loop-again
+    returns-2)

@@ -1,4 +1,4 @@
-use mathlib.Core.Path.{_≡_, refl}
+use mathlib.Core.Path.{_≡_, _∙_}
 use Prim.Native.Nat.{ℕ, _+_, _-_, _*_, _≤_, _<_}
 use lib.ListN.{length, getD}
 use Rattle.one_mark.specs.Climb.{number, landing, bearing}
@@ -63,7 +63,7 @@ number-of-requires-2 c κs =
     let i = c .before .before .before .before .loop .i in
     let ladder = entry .pre .0 in
     let landed = c .before .land .ensures .0 in
-    (ladder, (entry .pre .1 .1 .0 .ends i (c .before .before .before .loop-test .taken), omega (arith, landing-below (entry .args .shape .k) (getD (now (entry .args .marks)) i 0) (entry .args .level))))
+    (ladder, (entry .pre .1 .1 .0 .ends i (c .before .before .before .loop-test .taken), omega (arith, landing-below (entry .args .shape .k) (getD (entry .args .marks .now) i 0) (entry .args .level))))
 
 -- src/lift.rt:94:21
 add-place : tie.Need-add-place Inv-loop μ-loop
@@ -105,7 +105,7 @@ loop-less c = search needs
 loop-again : tie.Need-loop-again Inv-loop μ-loop
 loop-again c =
     let loop = c .before .before .before .before .before .loop in
-    let wrote = wrote-cell _ _ _ _ (loop .i) _ _ _ _ _ _ (loop .inv .1) _ _ _ (c .before .before .before .before .before .before .number-of .ensures) ? (c .before .before .land .ensures .1) in
+    let wrote = wrote-cell _ _ _ _ (loop .i) _ _ _ _ _ _ (loop .inv .1) _ _ _ (c .before .before .before .before .before .before .number-of .ensures) (c .number-of2 .ensures ∙ rw (c .before .before .land .ensures .0)) (c .before .before .land .ensures .1) in
     (search needs, wrote, wrote-kept wrote)
 
 -- src/lift.rt:100:5
@@ -128,7 +128,7 @@ same-length-3 c = search needs
 returns : tie.Need-returns Inv-loop μ-loop
 returns c =
     let loop = c .before .loop in
-    let whole : loop .i ≡ length (now (c .before .before .before .before .before .before .before .before .args .to)) = omega arith in
+    let whole : loop .i ≡ length (c .before .before .before .before .before .before .before .before .args .to .now) = omega arith in
     (search needs, rw whole at (loop .inv .1))
 
 pub lift-level-spec : {M : Type 1} → statement M

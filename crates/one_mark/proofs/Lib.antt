@@ -1,4 +1,6 @@
 pub mod Climbs
 pub mod Lists
 pub mod Numbers
+pub mod Order
+pub mod RowParts
 pub mod Wrote

@@ -1,7 +1,7 @@
 -- Laws of lists made of runs of cells, and of runs of cells written into a list. Assumes nothing.
 use mathlib.Core.Path.{_≡_, refl, sym, ap, _∙_}
 use mathlib.Core.List.{List, [], _∷_, _++_, append-assoc, append-nil}
-use Prim.Native.Nat.{ℕ, zero, suc, _+_, _-_, _≤_, _<_}
+use Prim.Native.Nat.{ℕ, zero, suc, _+_, _-_, _*_, _≤_, _<_}
 use native.Mathlib.Nat.{add-zero, zero-add}
 use native.Mathlib.Numerals.{add-one}
 use native.Mathlib.Omega.{arith}
@@ -70,6 +70,10 @@ module _ (f : ℕ → List ℕ) (at : ℕ → ℕ) (next : (i : ℕ) → at (suc
         let later : at (suc a) ≤ at s = begins (suc a) n s (omega arith) (omega arith) in
         let split : p ≡ length (f a) + k = omega (arith, next a) in
         rw split (getD-append-add (f a) (each f (suc a) n) k 0 ∙ each-at (suc a) n s i k (omega arith) (omega arith) m (omega (arith, next a))))
+
+-- lists of one length
+pub each-even : (f : ℕ → List ℕ) (w : ℕ) → ((i : ℕ) → length (f i) ≡ w) → (n : ℕ) → length (each f 0 n) ≡ n * w
+each-even f w long n = omega (arith, each-length f (λ i. i * w) (λ i. omega (arith, long i)) 0 n)
 
 -- ---- runs of stores
 

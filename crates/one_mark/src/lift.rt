@@ -1,12 +1,16 @@
 // Writes the translated edges: climbs, then the levels of a row, then the rows, then the whole table.
 // Relies on `table` for the rows. What the three outputs hold is in specs/Translated.antt, what each function asks in specs/Writing.antt.
+use table::row::run;
+
 ghost use mathlib.Core.Path.{_≡_};
 ghost use mathlib.Core.List.{List};
 ghost use Prim.Native.Nat.{ℕ, _+_, _*_, _≤_, _<_};
 ghost use lib.ListN.{length};
 ghost use Rattle.marks.specs.Mark.{width};
+ghost use Rattle.table.specs.Table.{lent};
+ghost use Rattle.table.specs.Refusal.{Proper};
 ghost use Rattle.one_mark.specs.Climb.{levels, number, reached, landing, bearing};
-ghost use Rattle.one_mark.specs.Writing.{Ladder, Room, RowAsked, LevelWritten, RowWritten};
+ghost use Rattle.one_mark.specs.Writing.{Ladder, Room, RowAsked, LevelWritten, RowWritten, StatesWritten};
 
 // What all of a translation goes by: the number of states, the number k of marks and the number K of levels.
 pub(crate) struct Shape {
@@ -125,4 +129,31 @@ fn lift_row(
         level += 1;
     }
     place
+}
+
+// Writes all translated edges, row by row.
+pub(crate) fn lift_table(
+    shape: Shape,
+    from: &[u32],
+    to: &[u32],
+    marks: &[u32],
+    leaves: &mut [u32],
+    arrives: &mut [u32],
+    bears: &mut [u32],
+)
+    requires { ⌜ Ladder (shape .states) (shape .k) (shape .levels) ⌝ }
+    requires { ⌜ Proper (lent (shape .states) 0 (now from) (now to) (now marks)) ⌝ }
+    requires { ⌜ Room 0 (length (now from) * shape .levels) (now leaves) (now arrives) (now bears) ⌝ }
+    ensures { λ _. ⌜ StatesWritten (lent (shape .states) 0 (now (from .entry)) (now (to .entry)) (now (marks .entry))) (shape .k) (shape .states) (now (leaves .entry)) (now (arrives .entry)) (now (bears .entry)) (now (leaves .exit)) (now (arrives .exit)) (now (bears .exit)) ⌝ }
+{
+    let states = shape.states;
+    let mut first = 0;
+    let mut place = 0;
+    let mut state = 0;
+    while state < states {
+        let end = first + run(&from[first..], state);
+        place = lift_row(state, shape, &to[first..end], &marks[first..end], place, leaves, arrives, bears);
+        first = end;
+        state += 1;
+    }
 }

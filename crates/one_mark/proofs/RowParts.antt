@@ -1,0 +1,107 @@
+-- A row handed on as parts of the tables gives the row's cells of the definition, and rows are written one behind the other. Assumes nothing.
+use mathlib.Core.Path.{_≡_, refl, sym, ap, _∙_}
+use mathlib.Core.List.{List}
+use Prim.Native.Nat.{ℕ, suc, _+_, _-_, _*_, _≤_, _<_}
+use native.Mathlib.Nat.{zero-add}
+use native.Mathlib.Numerals.{add-one}
+use native.Mathlib.Omega.{arith}
+use lib.ListN.{length, getD, drop, length-drop}
+use lib.Seq.{take-all}
+use Rattle.table.specs.Table.{Table}
+use Rattle.table.specs.Refusal.{Proper}
+use Rattle.table.specs.Row.{part, run, Row}
+use Rattle.table.proofs.Rows.{part-length, part-at, Begins, row-is, next-begins}
+use Rattle.one_mark.specs.Climb.{levels, number, landing, bearing}
+use Rattle.one_mark.specs.Place.{rowStart, rowLength, cells, each, rowCells}
+use Rattle.one_mark.specs.Translated.{liftedFrom, liftedTo, liftedMarks}
+use Rattle.one_mark.specs.Writing.{Wrote, Room, RowAsked, RowWritten, StatesWritten, partFrom, partTo, partMarks}
+use Rattle.one_mark.proofs.Lists.{cells-same, each-same}
+use Rattle.one_mark.proofs.Numbers.{rows-fit}
+use Rattle.one_mark.proofs.Order.{sorted, begins-front, order-length}
+use Rattle.one_mark.proofs.Wrote.{Kept, wrote-run}
+
+-- the row of s begins at edge a and is w edges long
+module _ (t : Table) (proper : Proper t) (s a w : ℕ) (begins : Begins (t .from) s a) (long : w ≡ run s (part a (length (t .from)) (t .from))) where
+  row : Row (t .from) s a (a + w)
+  row =
+      let whole : part a (length (t .from)) (t .from) ≡ drop a (t .from) = take-all (length (t .from) - a) (drop a (t .from)) (omega (arith, length-drop a (t .from))) in
+      rw (long, whole) (row-is (t .from) (sorted t proper) s a begins)
+
+  pub row-ends : a + w ≤ t .edges
+  row-ends = omega (arith, row .ends, proper .from-length)
+
+  pub next : Begins (t .from) (s + 1) (a + w)
+  next = rw add-one (next-begins (t .from) s a (a + w) row)
+
+  abbrev to-part : List ℕ
+  to-part = part a (a + w) (t .to)
+
+  abbrev marks-part : List ℕ
+  marks-part = part a (a + w) (t .marks)
+
+  to-long : length to-part ≡ w
+  to-long = part-length a (a + w) (t .to) (omega (arith, row-ends, proper .to-length)) ∙ omega arith
+
+  marks-long : length marks-part ≡ w
+  marks-long = part-length a (a + w) (t .marks) (omega (arith, row-ends, proper .marks-length)) ∙ omega arith
+
+  to-at : (i : ℕ) → i < w → getD to-part i 0 ≡ getD (t .to) (a + i) 0
+  to-at i l = part-at a (a + w) (t .to) i (omega arith)
+
+  marks-at : (i : ℕ) → i < w → getD marks-part i 0 ≡ getD (t .marks) (a + i) 0
+  marks-at i l = part-at a (a + w) (t .marks) i (omega arith)
+
+  -- what the scanning functions ask of the parts
+  pub row-asked : s < t .states → RowAsked (t .states) s to-part marks-part
+  row-asked l =
+      record {
+        state = l;
+        even = to-long ∙ sym marks-long;
+        ends = λ i h. rw (to-at i (omega (arith, to-long))) (proper .to-below (a + i) (omega (arith, to-long, row-ends)));
+      }
+
+  -- cells made from the parts are the row's cells
+  cells-of-parts : (k : ℕ) (g f : ℕ → ℕ → ℕ) → ((j i : ℕ) → i < w → g j i ≡ f j (a + i))
+      → each (λ j. cells (g j) 0 (length to-part)) 0 (levels k) ≡ rowCells t k f s
+  cells-of-parts k g f alike =
+      let here : rowStart t s ≡ a = begins-front (t .from) s a (sorted t proper) begins in
+      let behind : rowStart t (suc s) ≡ a + w = begins-front (t .from) (suc s) (a + w) (sorted t proper) (next-begins (t .from) s a (a + w) row) in
+      let width : rowLength t s ≡ w = omega arith in
+      each-same (λ j. cells (g j) 0 (length to-part)) (λ j. cells (f j) (rowStart t s) (rowLength t s)) 0 (levels k)
+      (λ j l h. rw (to-long, width, here) (cells-same (g j) (f j) 0 a w (λ i m. rw (zero-add i) (alike j i m))))
+
+  -- there is room for one row more
+  pub row-room : (K p : ℕ) (l b c l' b' c' : List ℕ) → Room 0 (t .edges * K) l b c → Kept l b c l' b' c' → p ≡ a * K
+      → Room p (K * length to-part) l' b' c'
+  row-room K p l b c l' b' c' room kept e =
+      rw to-long
+      (record {
+        for-from = omega (arith, rows-fit (a + w) (t .edges) K row-ends);
+        for-to = omega (arith, rows-fit (a + w) (t .edges) K row-ends);
+        for-marks = omega (arith, rows-fit (a + w) (t .edges) K row-ends);
+      })
+
+  -- the next place
+  pub row-placed : (K p r : ℕ) → p ≡ a * K → r ≡ p + K * length to-part → r ≡ (a + w) * K
+  row-placed K p r e q = q ∙ rw to-long (omega arith)
+
+  -- and it is written behind those before
+  pub row-behind : (k K p : ℕ) (l b c l' b' c' l'' b'' c'' : List ℕ) → K ≡ levels k → p ≡ a * K
+      → StatesWritten t k s l b c l' b' c' → RowWritten k s K p to-part marks-part l' b' c' l'' b'' c'' → StatesWritten t k (s + 1) l b c l'' b'' c''
+  row-behind k K p l b c l' b' c' l'' b'' c'' all e written more =
+      let here : rowStart t s ≡ a = begins-front (t .from) s a (sorted t proper) begins in
+      let at : a * K ≡ rowStart t s * levels k = rw (all, here) in
+      wrote-run 0 p (rowCells t k (liftedFrom t k)) (rowCells t k (liftedTo t k)) (rowCells t k (liftedMarks t k)) s l b c l' b' c' l'' b'' c'' written
+      (rw (all, cells-of-parts k (λ j i. number k s j) (liftedFrom t k) from-alike, cells-of-parts k (λ j i. number k (getD to-part i 0) (landing k (getD marks-part i 0) j)) (liftedTo t k) to-alike, cells-of-parts k (λ j i. bearing k (getD marks-part i 0) j) (liftedMarks t k) marks-alike) at more)
+      (omega (arith, order-length t k (liftedFrom t k) s))
+      (omega (arith, order-length t k (liftedTo t k) s))
+      (omega (arith, order-length t k (liftedMarks t k) s))
+    where
+      from-alike : (j i : ℕ) → i < w → number k s j ≡ liftedFrom t k j (a + i)
+      from-alike j i l = rw (row .inside (a + i) (omega arith) (omega arith))
+
+      to-alike : (j i : ℕ) → i < w → number k (getD to-part i 0) (landing k (getD marks-part i 0) j) ≡ liftedTo t k j (a + i)
+      to-alike j i l = rw (to-at i l, marks-at i l)
+
+      marks-alike : (j i : ℕ) → i < w → bearing k (getD marks-part i 0) j ≡ liftedMarks t k j (a + i)
+      marks-alike j i l = rw (marks-at i l)

@@ -8,15 +8,16 @@ use native.Mathlib.Nat.{lt-of-lt-of-le}
 use native.Mathlib.Omega.{arith}
 use lib.Pow.{ones-lt}
 use lib.Dec.{ltb, leb}
-use lib.ListN.{getD}
-use borrow.Author.Tests.{le-leb, lt-leb, lt-ltb, le-ltb, not-true, not-false}
+use lib.ListN.{length, getD}
+use borrow.Author.Tests.{le-leb, lt-leb, lt-ltb, le-ltb, eq-eqb, ne-eqb, not-true, not-false}
 use Rattle.marks.specs.Mark.{Covers, firstMarks, width}
 use Rattle.marks.proofs.Cases.{below}
 use Rattle.marks.proofs.Laws.{has-first, has-fits, fits-has}
+use Rattle.table.specs.declared.Acceptance.{Acceptance}
 use Rattle.table.specs.declared.Finding.{Finding}
 use Rattle.table.specs.declared.Finding.the-variants.{Refused}
-use Rattle.table.specs.Table.{Table, borne}
-use Rattle.table.specs.Refusal.{wrongOrder, wrongMark, wrongEnd, edgeRefusal, either, pick}
+use Rattle.table.specs.Table.{Table, borne, lent}
+use Rattle.table.specs.Refusal.{wrongOrder, wrongEnd, wrongCondition, used, edgeRefusal, refusal, mostStates, mostEdges}
 
 -- what the code holds as the from state before edge e: 0 before the first
 abbrev pub before : List ℕ → ℕ → ℕ
@@ -73,3 +74,11 @@ uncovered u x {b} w says h =
 
 pub covered : (u x : ℕ) {b : Bool} → ((b ≡ true) ↔ Covers (firstMarks width u) x) → not b ≡ false → x < 2 ^ u
 covered u x {b} says h = covered-small u x (says .0 (not-false b h))
+
+-- where rows 1 to 4 find nothing the edges decide
+pub left-to-edges : (n start : ℕ) (from to marks : List ℕ) (c : Acceptance) (needs : List ℕ)
+    → (n ≡ 0 → ⊥) → n ≤ mostStates → length from ≡ length to → length from ≡ length marks → length from ≤ mostEdges → start < n
+    → wrongCondition c needs ≡ false
+    → refusal (lent n start from to marks) c needs ≡ edgeRefusal (lent n start from to marks) (used c needs) 0 (length from)
+left-to-edges n start from to marks c needs h₁ h₂ h₃ h₄ h₅ h₆ h₇ =
+    rw (ne-eqb n 0 h₁, le-ltb mostStates n h₂, eq-eqb (length from) (length to) h₃, eq-eqb (length from) (length marks) h₄, le-ltb mostEdges (length from) h₅, lt-leb n start h₆, h₇)

@@ -2,4 +2,5 @@ pub mod Faults
 pub mod Needs
 pub mod Rows
 pub mod Shifts
+pub mod Sound
 pub mod Walks

@@ -49,11 +49,11 @@ run-after s [] h e = absurd (omega arith)
 run-after s (x ∷ xs) h e =
     same x s
     (λ q.
-      let r : run s (x ∷ xs) ≡ suc (run s xs) = ap (λ (b : Bool). oneMore b (run s xs)) (eq-eqb x s q) in
-      run-after s xs (omega arith) (subst (λ (k : ℕ). getD (x ∷ xs) k 0 ≡ s) r e))
+    let r : run s (x ∷ xs) ≡ suc (run s xs) = ap (λ (b : Bool). oneMore b (run s xs)) (eq-eqb x s q) in
+    run-after s xs (omega arith) (subst (λ (k : ℕ). getD (x ∷ xs) k 0 ≡ s) r e))
     (λ q.
-      let r : run s (x ∷ xs) ≡ 0 = ap (λ (b : Bool). oneMore b (run s xs)) (ne-eqb x s q) in
-      q (subst (λ (k : ℕ). getD (x ∷ xs) k 0 ≡ s) r e))
+    let r : run s (x ∷ xs) ≡ 0 = ap (λ (b : Bool). oneMore b (run s xs)) (ne-eqb x s q) in
+    q (subst (λ (k : ℕ). getD (x ∷ xs) k 0 ≡ s) r e))
 
 pub run-most : (s : ℕ) (xs : List ℕ) → run s xs ≤ length xs
 run-most s [] = omega arith

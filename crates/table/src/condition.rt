@@ -9,6 +9,7 @@ use crate::Acceptance;
 use marks::WIDTH;
 
 const MOST_STREETT: u32 = 16;
+
 const MOST_RABIN: u32 = 8;
 
 // Whether a need from pair p on is not 0.

@@ -8,7 +8,14 @@ ghost use Rattle.table.specs.Refusal.{edgeRefusal, mostEdges};
 use crate::Finding;
 
 // The first faulty edge decides, and 5, 6, 7 in that order within it.
-pub(crate) fn first_fault(n: u32, start: u32, from: &[u32], to: &[u32], marks: &[u32], used: u32) -> Finding
+pub(crate) fn first_fault(
+    n: u32,
+    start: u32,
+    from: &[u32],
+    to: &[u32],
+    marks: &[u32],
+    used: u32,
+) -> Finding
     requires { ⌜ length (now to) ≡ length (now from) ⌝ }
     requires { ⌜ length (now marks) ≡ length (now from) ⌝ }
     requires { ⌜ length (now from) ≤ mostEdges ⌝ }
@@ -21,16 +28,28 @@ pub(crate) fn first_fault(n: u32, start: u32, from: &[u32], to: &[u32], marks: &
     while e < from.len() {
         let leaves = from[e];
         if n <= leaves {
-            return Finding::Refused { number: 5, place: e as u32 };
+            return Finding::Refused {
+                number: 5,
+                place: e as u32,
+            };
         }
         if n <= to[e] {
-            return Finding::Refused { number: 5, place: e as u32 };
+            return Finding::Refused {
+                number: 5,
+                place: e as u32,
+            };
         }
         if leaves < before {
-            return Finding::Refused { number: 6, place: e as u32 };
+            return Finding::Refused {
+                number: 6,
+                place: e as u32,
+            };
         }
         if !marks::covers(allowed, marks[e]) {
-            return Finding::Refused { number: 7, place: e as u32 };
+            return Finding::Refused {
+                number: 7,
+                place: e as u32,
+            };
         }
         before = leaves;
         e += 1;

@@ -9,6 +9,7 @@ ghost use Rattle.table.specs.Table.{lent};
 ghost use Rattle.table.specs.Refusal.{refusal};
 
 pub const MOST_STATES: u32 = 4096;
+
 pub const MOST_EDGES: usize = 32768;
 
 // The condition: one of three cases with its number. Rabin's eight needs stand beside it.
@@ -53,25 +54,46 @@ pub fn check(
     ensures { λ r. ⌜ r ≡ refusal (lent n start (now (from .entry)) (now (to .entry)) (now (marks .entry))) condition needs ⌝ }
 {
     if n == 0 {
-        return Finding::Refused { number: 1, place: 0 };
+        return Finding::Refused {
+            number: 1,
+            place: 0,
+        };
     }
     if MOST_STATES < n {
-        return Finding::Refused { number: 1, place: 0 };
+        return Finding::Refused {
+            number: 1,
+            place: 0,
+        };
     }
     if from.len() != to.len() {
-        return Finding::Refused { number: 2, place: 0 };
+        return Finding::Refused {
+            number: 2,
+            place: 0,
+        };
     }
     if from.len() != marks.len() {
-        return Finding::Refused { number: 2, place: 0 };
+        return Finding::Refused {
+            number: 2,
+            place: 0,
+        };
     }
     if MOST_EDGES < from.len() {
-        return Finding::Refused { number: 2, place: 0 };
+        return Finding::Refused {
+            number: 2,
+            place: 0,
+        };
     }
     if n <= start {
-        return Finding::Refused { number: 3, place: 0 };
+        return Finding::Refused {
+            number: 3,
+            place: 0,
+        };
     }
     if condition::wrong_condition(condition, needs) {
-        return Finding::Refused { number: 4, place: 0 };
+        return Finding::Refused {
+            number: 4,
+            place: 0,
+        };
     }
     let used = condition::used_marks(condition, needs);
     edges::first_fault(n, start, from, to, marks, used)

@@ -125,9 +125,14 @@ loop-again c =
     let a = l .before .before .before .before .before .args in
     let t = lent (a .n) (a .start) (a .from .now) (a .to .now) (a .marks .now) in
     let e = l .loop .e in
-    let n : length (a .from .now) - suc e ≡ length (a .from .now) - (e + 1) = omega arith in
-    (omega arith, (sym (ap (faults.before (a .from .now)) (add-one e)), decided t (a .used) e (omega arith) (l .loop .inv .1 .1) (faultless t (a .used) e (t .edges - suc e) (omega arith) (omega arith) (omega arith) (little c))
-      ∙ ap (λ (k : ℕ). edgeRefusal t (a .used) k (length (a .from .now) - suc e)) (sym (add-one e)) ∙ ap (edgeRefusal t (a .used) (e + 1)) n))
+    let n : length (a .from .now) - suc e ≡ length (a .from .now) - (e + 1) = omega arith in (
+      omega arith,
+      (
+        sym (ap (faults.before (a .from .now)) (add-one e)),
+        decided t (a .used) e (omega arith) (l .loop .inv .1 .1) (faultless t (a .used) e (t .edges - suc e) (omega arith) (omega arith) (omega arith) (little c))
+            ∙ ap (λ (k : ℕ). edgeRefusal t (a .used) k (length (a .from .now) - suc e)) (sym (add-one e)) ∙ ap (edgeRefusal t (a .used) (e + 1)) n,
+      ),
+    )
 
 returns-5 : tie.Need-returns-5 Inv-loop μ-loop
 returns-5 c =

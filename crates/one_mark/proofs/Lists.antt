@@ -5,8 +5,8 @@ use Prim.Native.Nat.{ℕ, zero, suc, _+_, _-_, _*_, _≤_, _<_}
 use native.Mathlib.Nat.{add-zero, zero-add}
 use native.Mathlib.Numerals.{add-one}
 use native.Mathlib.Omega.{arith}
-use lib.ListN.{length, getD, set, length-append, List·getD-append}
-use lib.Seq.{sets, getD-append-add}
+use lib.ListN.{length, getD, set, replicate, length-append, List·getD-append}
+use lib.Seq.{sets, sets-eq, drop-length, getD-append-add}
 use Rattle.marks.proofs.Cases.{same}
 use Rattle.one_mark.specs.Place.{cells, each}
 
@@ -32,6 +32,10 @@ cells-same f g a b (suc n) h =
     let first : f a ≡ g b = ap f (sym (add-zero a)) ∙ h 0 (omega arith) ∙ ap g (add-zero b) in
     let rest : cells f (suc a) n ≡ cells g (suc b) n = cells-same f g (suc a) (suc b) n (λ i l. ap f (omega arith) ∙ h (suc i) (omega arith) ∙ ap g (omega arith)) in
     rw (first, rest)
+
+pub cells-zero : (a n : ℕ) → cells (λ e. 0) a n ≡ replicate n 0
+cells-zero a zero = refl
+cells-zero a (suc n) = ap {B = List ℕ} (λ xs. 0 ∷ xs) (cells-zero (suc a) n)
 
 -- ---- lists one behind the other
 
@@ -63,13 +67,13 @@ module _ (f : ℕ → List ℕ) (at : ℕ → ℕ) (next : (i : ℕ) → at (suc
   each-at a (suc n) s i p l h m q =
       same a s
       (λ (e : a ≡ s).
-        let same-place : p ≡ i = omega (arith, ap at e) in
-        rw (same-place, e) (List·getD-append (f s) (each f (suc s) n) 0 i m))
+      let same-place : p ≡ i = omega (arith, ap at e) in
+      rw (same-place, e) (List·getD-append (f s) (each f (suc s) n) 0 i m))
       (λ e.
-        let k = p - length (f a) in
-        let later : at (suc a) ≤ at s = begins (suc a) n s (omega arith) (omega arith) in
-        let split : p ≡ length (f a) + k = omega (arith, next a) in
-        rw split (getD-append-add (f a) (each f (suc a) n) k 0 ∙ each-at (suc a) n s i k (omega arith) (omega arith) m (omega (arith, next a))))
+      let k = p - length (f a) in
+      let later : at (suc a) ≤ at s = begins (suc a) n s (omega arith) (omega arith) in
+      let split : p ≡ length (f a) + k = omega (arith, next a) in
+      rw split (getD-append-add (f a) (each f (suc a) n) k 0 ∙ each-at (suc a) n s i k (omega arith) (omega arith) m (omega (arith, next a))))
 
 -- lists of one length
 pub each-even : (f : ℕ → List ℕ) (w : ℕ) → ((i : ℕ) → length (f i) ≡ w) → (n : ℕ) → length (each f 0 n) ≡ n * w
@@ -86,3 +90,9 @@ sets-append l at (x ∷ xs) ys =
 pub sets-more : (l : List ℕ) (at : ℕ) (f : ℕ → ℕ) (n : ℕ) → set (sets l at (cells f 0 n)) (at + n) (f n) ≡ sets l at (cells f 0 (n + 1))
 sets-more l at f n =
     rw (add-one n, cells-more f 0 n, zero-add n, sets-append l at (cells f 0 n) (f n ∷ []), length-cells f 0 n)
+
+-- a list that is written over as a whole
+pub sets-whole : (l xs : List ℕ) → length xs ≡ length l → sets l 0 xs ≡ xs
+sets-whole l xs e =
+    let all : 0 + length xs ≡ length l = omega arith in
+    sets-eq xs l 0 (omega arith) ∙ rw (all, drop-length l) (append-nil xs)

@@ -122,7 +122,7 @@ module _ (t : Table) (k : ℕ) (f : ℕ → ℕ → ℕ) where
       let w = rowLength t s in
       let in-level : j * w + i < length (rowCells t k f s) = omega (arith, row-length s, level-fits j (levels k) w lj) in
       let at-state = each-at (rowCells t k f) (λ h. rowStart t h * levels k) row-next 0 (t .states) s (j * w + i) (rowStart t s * levels k + j * w + i)
-          (omega arith) (omega arith) in-level (omega (arith, none-before)) in
+      (omega arith) (omega arith) in-level (omega (arith, none-before)) in
       let at-level = each-at (levelCells t f s) (λ h. h * w) (λ h. omega (arith, level-length s h)) 0 (levels k) j i (j * w + i)
-          (omega arith) (omega arith) (omega (arith, level-length s j)) (omega arith) in
+      (omega arith) (omega arith) (omega (arith, level-length s j)) (omega arith) in
       at-state ∙ at-level ∙ cells-at (f j) (rowStart t s) w i li

@@ -9,20 +9,21 @@ use lib.ListN.{length, replicate}
 use Rattle.table.specs.declared.Acceptance.the-variants.{Buchi}
 use Rattle.table.specs.declared.Finding.{Finding}
 use Rattle.table.specs.declared.Finding.the-variants.{Sound, Refused as Faulty}
-use Rattle.table.specs.Table.{Table}
-use Rattle.table.specs.Refusal.{refusal, either, mostStates, mostEdges}
+use Rattle.table.specs.Table.{Table, lent}
+use Rattle.table.specs.Refusal.{refusal, either, mostStates, mostEdges, Proper}
 use Rattle.one_mark.specs.declared.Translation.{Translation}
 use Rattle.one_mark.specs.declared.Translation.the-variants.{Made, Refused}
 use Rattle.one_mark.specs.Climb.{levels, number}
 use Rattle.one_mark.specs.Translated.{translated}
+use Rattle.one_mark.specs.Writing.{Ladder, Room}
 
--- row 10: the translated table is above 4,096 states or 32,768 edges
-abbrev pub tooLarge : Table → ℕ → Bool
-tooLarge t k = either (ltb mostStates (t .states * levels k)) (ltb mostEdges (t .edges * levels k))
+-- row 10: a table to be made is above 4,096 states or 32,768 edges
+abbrev pub large : ℕ → ℕ → Bool
+large states edges = either (ltb mostStates states) (ltb mostEdges edges)
 
 -- row 11: a lent output, of the lengths a, b and c, is shorter than the translated edge count
-abbrev pub tooShort : Table → ℕ → ℕ → ℕ → ℕ → Bool
-tooShort t k a b c = either (ltb a (t .edges * levels k)) (either (ltb b (t .edges * levels k)) (ltb c (t .edges * levels k)))
+abbrev pub short : ℕ → ℕ → ℕ → ℕ → Bool
+short edges a b c = either (ltb a edges) (either (ltb b edges) (ltb c edges))
 
 abbrev pub first : Bool → Translation → Translation → Translation
 first true a b = a
@@ -36,8 +37,8 @@ unless (Faulty number place) r = Refused number place
 abbrev pub answer : Table → ℕ → ℕ → ℕ → ℕ → Translation
 answer t k a b c =
     unless (refusal t (Buchi k) [])
-    (first (tooLarge t k) (Refused 10 0)
-    (first (tooShort t k a b c) (Refused 11 0)
+    (first (large (t .states * levels k) (t .edges * levels k)) (Refused 10 0)
+    (first (short (t .edges * levels k) a b c) (Refused 11 0)
     (Made (t .states * levels k) (t .edges * levels k) (number k (t .start) 0))))
 
 -- what a lent output holds: after a table was made its list and then zeros; after a refusal what it held
@@ -46,11 +47,25 @@ held (Made states edges start) made old = made ++ replicate (length old - length
 held (Refused number place) made old = old
 
 -- the promise of the translation: its answer, and the three outputs
-pub record Outcome (t : Table) (k : ℕ) (from to marks : List ℕ) (r : Translation) (from' to' marks' : List ℕ) : Type 0 where
-  pub answered : r ≡ answer t k (length from) (length to) (length marks)
-  pub from-held : from' ≡ held r (translated t k .from) from
-  pub to-held : to' ≡ held r (translated t k .to) to
-  pub marks-held : marks' ≡ held r (translated t k .marks) marks
+pub record Outcome (t : Table) (k : ℕ) (leaves arrives bears : List ℕ) (r : Translation) (leaves' arrives' bears' : List ℕ) : Type 0 where
+  pub answered : r ≡ answer t k (length leaves) (length arrives) (length bears)
+  pub from-held : leaves' ≡ held r (translated t k .from) leaves
+  pub to-held : arrives' ≡ held r (translated t k .to) arrives
+  pub marks-held : bears' ≡ held r (translated t k .marks) bears
+
+-- ---- between the functions: what the writing of a table that was not refused goes by, and what it leaves
+
+pub record Ready (n k K edges : ℕ) (from to marks leaves arrives bears : List ℕ) : Type 0 where
+  pub ladder : Ladder n k K
+  pub proper : Proper (lent n 0 from to marks)
+  pub count : edges ≡ length from * K
+  pub room : Room 0 edges leaves arrives bears
+
+-- the translated lists, then zeros
+pub record Filled (t : Table) (k : ℕ) (leaves arrives bears leaves' arrives' bears' : List ℕ) : Type 0 where
+  pub from-filled : leaves' ≡ translated t k .from ++ replicate (length leaves - length (translated t k .from)) 0
+  pub to-filled : arrives' ≡ translated t k .to ++ replicate (length arrives - length (translated t k .to)) 0
+  pub marks-filled : bears' ≡ translated t k .marks ++ replicate (length bears - length (translated t k .marks)) 0
 
 -- ---- document 01's number, place, counts and new start for each answer
 

@@ -1,7 +1,178 @@
-// The one-mark translation (document 01, "One-mark translation").
+// The one-mark translation (document 01, "One-mark translation"): a table with k marks, read as Büchi k, becomes one with one mark, read as
+// Büchi 1, whose accepted lassos lie over those of the first. Relies on `table` for rows 1 to 7 and for the rows of a table.
 mod lift;
 
+use lift::Shape;
+use lift::level_count;
+use lift::lift_table;
+use lift::number_of;
+use table::Acceptance;
+use table::Finding;
+use table::MOST_EDGES;
+use table::MOST_STATES;
+ghost use mathlib.Core.Path.{_≡_};
+ghost use mathlib.Core.List.{List};
+ghost use Prim.Native.Nat.{ℕ, _-_, _*_, _≤_};
+ghost use lib.ListN.{length, replicate};
+ghost use lib.Seq.{sets};
+ghost use Rattle.table.specs.Table.{lent};
+ghost use Rattle.one_mark.specs.Outcome.{Outcome, Ready, Filled, answer, large, short};
+
+// What the translation answers: both counts and the new start, or why it refuses, with number and place.
 pub enum Translation {
     Made { states: u32, edges: u32, start: u32 },
     Refused { number: u32, place: u32 },
+}
+
+// Row 10: whether a table to be made is too large.
+fn too_large(states: u32, edges: usize) -> bool
+    ensures { λ r. ⌜ r ≡ large states edges ⌝ }
+{
+    if MOST_STATES < states {
+        return true;
+    }
+    MOST_EDGES < edges
+}
+
+// Row 11: whether one of three outputs, of the lengths `a`, `b` and `c`, is too short for the edges.
+fn too_short(edges: usize, a: usize, b: usize, c: usize) -> bool
+    ensures { λ r. ⌜ r ≡ short edges a b c ⌝ }
+{
+    if a < edges {
+        return true;
+    }
+    if b < edges {
+        return true;
+    }
+    c < edges
+}
+
+// What the translation will answer, with lent outputs of the lengths `a`, `b` and `c`.
+fn foresee(
+    n: u32,
+    start: u32,
+    from: &[u32],
+    to: &[u32],
+    marks: &[u32],
+    k: u32,
+    a: usize,
+    b: usize,
+    c: usize,
+) -> Translation
+    ensures { λ r. ⌜ r ≡ answer (lent n start (now (from .entry)) (now (to .entry)) (now (marks .entry))) k a b c ⌝ }
+{
+    let finding = table::check(n, start, from, to, marks, Acceptance::Buchi(k), [0; 8]);
+    if let Finding::Refused { number, place } = finding {
+        return Translation::Refused { number, place };
+    }
+    let levels = level_count(k);
+    let states = n * levels;
+    let edges = from.len() * (levels as usize);
+    if too_large(states, edges) {
+        return Translation::Refused {
+            number: 10,
+            place: 0,
+        };
+    }
+    if too_short(edges, a, b, c) {
+        return Translation::Refused {
+            number: 11,
+            place: 0,
+        };
+    }
+    let shape = Shape {
+        states: n,
+        k,
+        levels,
+    };
+    let first = number_of(start, 0, shape);
+    Translation::Made {
+        states,
+        edges: edges as u32,
+        start: first,
+    }
+}
+
+// Zeros from place `at` to the end.
+fn clear(out: &mut [u32], at: usize)
+    requires { ⌜ at ≤ length (now out) ⌝ }
+    ensures { λ _. ⌜ now (out .exit) ≡ sets (now (out .entry)) at (replicate (length (now (out .entry)) - at) 0) ⌝ }
+{
+    let left = out.len() - at;
+    let mut i = 0;
+    while i < left {
+        out[at + i] = 0;
+        i += 1;
+    }
+}
+
+// Writes the translated edges, then zeros.
+fn fill(
+    shape: Shape,
+    from: &[u32],
+    to: &[u32],
+    marks: &[u32],
+    edges: usize,
+    leaves: &mut [u32],
+    arrives: &mut [u32],
+    bears: &mut [u32],
+)
+    requires { ⌜ Ready (shape .states) (shape .k) (shape .levels) edges (now from) (now to) (now marks) (now leaves) (now arrives) (now bears) ⌝ }
+    ensures { λ _. ⌜ Filled (lent (shape .states) 0 (now (from .entry)) (now (to .entry)) (now (marks .entry))) (shape .k) (now (leaves .entry)) (now (arrives .entry)) (now (bears .entry)) (now (leaves .exit)) (now (arrives .exit)) (now (bears .exit)) ⌝ }
+{
+    lift_table(shape, from, to, marks, leaves, arrives, bears);
+    clear(leaves, edges);
+    clear(arrives, edges);
+    clear(bears, edges);
+}
+
+// Translates a lent table with k marks into the three lent outputs: where each translated edge leaves, where it arrives, what it bears.
+pub fn translate(
+    n: u32,
+    start: u32,
+    from: &[u32],
+    to: &[u32],
+    marks: &[u32],
+    k: u32,
+    leaves: &mut [u32],
+    arrives: &mut [u32],
+    bears: &mut [u32],
+) -> Translation
+    ensures { λ r. ⌜ Outcome (lent n start (now (from .entry)) (now (to .entry)) (now (marks .entry))) k (now (leaves .entry)) (now (arrives .entry)) (now (bears .entry)) r (now (leaves .exit)) (now (arrives .exit)) (now (bears .exit)) ⌝ }
+{
+    let answer = foresee(
+        n,
+        start,
+        from,
+        to,
+        marks,
+        k,
+        leaves.len(),
+        arrives.len(),
+        bears.len(),
+    );
+    let Translation::Made {
+        states: _,
+        edges,
+        start: _,
+    } = answer
+    else {
+        return answer;
+    };
+    let shape = Shape {
+        states: n,
+        k,
+        levels: level_count(k),
+    };
+    fill(
+        shape,
+        from,
+        to,
+        marks,
+        edges as usize,
+        leaves,
+        arrives,
+        bears,
+    );
+    answer
 }

@@ -1,7 +1,6 @@
 // Writes the translated edges: climbs, then the levels of a row, then the rows, then the whole table.
 // Relies on `table` for the rows. What the three outputs hold is in specs/Translated.antt, what each function asks in specs/Writing.antt.
 use table::row::run;
-
 ghost use mathlib.Core.Path.{_≡_};
 ghost use mathlib.Core.List.{List};
 ghost use Prim.Native.Nat.{ℕ, _+_, _*_, _≤_, _<_};
@@ -56,7 +55,10 @@ fn land(marks: u32, level: u32, k: u32) -> Landing
 {
     let top = climb(marks, level, k);
     if top < k {
-        return Landing { level: top, marks: 0 };
+        return Landing {
+            level: top,
+            marks: 0,
+        };
     }
     Landing { level: 0, marks: 1 }
 }
@@ -125,7 +127,17 @@ fn lift_row(
     let mut place = at;
     let mut level = 0;
     while level < levels {
-        place = lift_level(state, level, shape, to, marks, place, leaves, arrives, bears);
+        place = lift_level(
+            state,
+            level,
+            shape,
+            to,
+            marks,
+            place,
+            leaves,
+            arrives,
+            bears,
+        );
         level += 1;
     }
     place
@@ -152,7 +164,16 @@ pub(crate) fn lift_table(
     let mut state = 0;
     while state < states {
         let end = first + run(&from[first..], state);
-        place = lift_row(state, shape, &to[first..end], &marks[first..end], place, leaves, arrives, bears);
+        place = lift_row(
+            state,
+            shape,
+            &to[first..end],
+            &marks[first..end],
+            place,
+            leaves,
+            arrives,
+            bears,
+        );
         first = end;
         state += 1;
     }

@@ -20,9 +20,9 @@ abbrev Inv-loop : tie.InvT-loop
 Inv-loop state level shape to marks at leaves₀ arrives₀ bears₀ k leaving i₀ leaves arrives bears i =
     (i ≤ length to)
     × (Wrote at (cells (λ e. number (shape .k) state level) 0 i)
-        (cells (λ e. number (shape .k) (getD to e 0) (landing (shape .k) (getD marks e 0) level)) 0 i)
-        (cells (λ e. bearing (shape .k) (getD marks e 0) level) 0 i)
-        leaves₀ arrives₀ bears₀ leaves arrives bears)
+    (cells (λ e. number (shape .k) (getD to e 0) (landing (shape .k) (getD marks e 0) level)) 0 i)
+    (cells (λ e. bearing (shape .k) (getD marks e 0) level) 0 i)
+    leaves₀ arrives₀ bears₀ leaves arrives bears)
     × Kept leaves₀ arrives₀ bears₀ leaves arrives bears
 
 abbrev μ-loop : tie.MeasureT-loop

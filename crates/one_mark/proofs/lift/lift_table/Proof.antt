@@ -105,11 +105,14 @@ lift-row-requires c κs =
     let entry = after .before .before .before .before .before .before .before .before .before .before in
     let a = entry .args in
     let loop = after .before .before .before .loop in
-    let r = after .run in
-    (entry .pre .0,
-      (row-asked (table after) (entry .pre .1 .0) (loop .state) (loop .first) (r .result) (loop .inv .1) (r .ensures) (after .before .before .loop-test .taken),
+    let r = after .run in (
+      entry .pre .0,
+      (
+        row-asked (table after) (entry .pre .1 .0) (loop .state) (loop .first) (r .result) (loop .inv .1) (r .ensures) (after .before .before .loop-test .taken),
         row-room (table after) (entry .pre .1 .0) (loop .state) (loop .first) (r .result) (loop .inv .1) (r .ensures) (a .shape .levels) (loop .place)
-        (a .leaves .now) (a .arrives .now) (a .bears .now) (loop .leaves) (loop .arrives) (loop .bears) (entry .pre .1 .1) (loop .inv .4) (loop .inv .2)))
+            (a .leaves .now) (a .arrives .now) (a .bears .now) (loop .leaves) (loop .arrives) (loop .bears) (entry .pre .1 .1) (loop .inv .4) (loop .inv .2),
+      ),
+    )
 
 -- src/lift.rt:157:9
 add-state : tie.Need-add-state Inv-loop μ-loop
@@ -130,8 +133,8 @@ loop-again c =
     let r = after .run in
     let last = called .last .1 .1 .1 .1 .1 in
     let wrote = row-behind (table after) (entry .pre .1 .0) (loop .state) (loop .first) (r .result) (loop .inv .1) (r .ensures) (a .shape .k) (a .shape .levels) (loop .place)
-        (a .leaves .now) (a .arrives .now) (a .bears .now) (loop .leaves) (loop .arrives) (loop .bears) (last .0) (last .1 .0) (last .1 .1 .0)
-        (entry .pre .0 .all) (loop .inv .2) (loop .inv .3) (called .ensures .1) in
+    (a .leaves .now) (a .arrives .now) (a .bears .now) (loop .leaves) (loop .arrives) (loop .bears) (last .0) (last .1 .0) (last .1 .1 .0)
+    (entry .pre .0 .all) (loop .inv .2) (loop .inv .3) (called .ensures .1) in
     let placed = row-placed (table after) (entry .pre .1 .0) (loop .state) (loop .first) (r .result) (loop .inv .1) (r .ensures) (a .shape .levels) (loop .place) (called .result) (loop .inv .2) (called .ensures .0) in
     (search needs, next (table after) (entry .pre .1 .0) (loop .state) (loop .first) (r .result) (loop .inv .1) (r .ensures), placed, wrote, wrote-kept wrote)
 

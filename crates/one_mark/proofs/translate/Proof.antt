@@ -1,0 +1,69 @@
+use native.Mathlib.Omega.{arith}
+use borrow.Author.Needs.{needs}
+use Rattle.one_mark.proofs.translate.Statement.{statement}
+use Rattle.one_mark.proofs.translate.Tie as tie
+use Rattle.one_mark.proofs.translate.Reads as reads
+use Rattle.one_mark.proofs.translate.Lts as lts
+use Rattle.one_mark.proofs.fill.Reads as fill-reads
+use Rattle.one_mark.proofs.foresee.Reads as foresee-reads
+use Rattle.one_mark.proofs.lift.level_count.Reads as level-count-reads
+
+-- src/lib.rt:143:9
+foresee-requires : tie.Need-foresee-requires
+foresee-requires c κs = search needs
+
+-- src/lib.rt:156:9
+enum-known-answer : tie.Need-enum-known-answer
+enum-known-answer c = search needs
+
+-- src/lib.rt:160:9
+enum-told : tie.Need-enum-told
+enum-told c = search needs
+
+-- src/lib.rt:160:9
+returns : tie.Need-returns
+returns c = search needs
+
+-- src/lib.rt:165:17
+level-count-requires : tie.Need-level-count-requires
+level-count-requires c κs = search needs
+
+-- src/lib.rt:172:9
+cast-fill : tie.Need-cast-fill
+cast-fill c = search needs
+
+-- src/lib.rt:167:5
+fill-requires : tie.Need-fill-requires
+fill-requires c κs = search needs
+
+-- src/lib.rt:130:1
+same-length : tie.Need-same-length
+same-length c = search needs
+
+-- src/lib.rt:130:1
+same-length-2 : tie.Need-same-length-2
+same-length-2 c = search needs
+
+-- src/lib.rt:130:1
+same-length-3 : tie.Need-same-length-3
+same-length-3 c = search needs
+
+-- src/lib.rt:130:1
+returns-2 : tie.Need-returns-2
+returns-2 c = search needs
+
+pub translate-spec : {M : Type 1} → statement M
+translate-spec =
+    tie.close
+    (tie.spec
+    foresee-requires
+    enum-known-answer
+    enum-told
+    returns
+    level-count-requires
+    cast-fill
+    fill-requires
+    same-length
+    same-length-2
+    same-length-3
+    returns-2)

@@ -3,5 +3,6 @@ pub mod Climbs
 pub mod Lists
 pub mod Numbers
 pub mod Order
+pub mod Outcomes
 pub mod RowParts
 pub mod Wrote

@@ -1,3 +1,6 @@
+use mathlib.Core.Path.{sym, _∙_}
+use Rattle.table.specs.Table.{lent}
+use Rattle.one_mark.proofs.Outcomes.{ready, outcome-refused, outcome-made}
 use native.Mathlib.Omega.{arith}
 use borrow.Author.Needs.{needs}
 use Rattle.one_mark.proofs.translate.Statement.{statement}
@@ -22,7 +25,10 @@ enum-told c = search needs
 
 -- src/lib.rt:160:9
 returns : tie.Need-returns
-returns c = search needs
+returns c =
+    let a = c .before .before .before .before .before .before .before .before .before .args in
+    outcome-refused (lent (a .n) (a .start) (a .from .now) (a .to .now) (a .marks .now)) (a .k) (a .leaves .now) (a .arrives .now) (a .bears .now)
+    (c .before .before .foresee .result) (c .enum-told .given .0 .0) (c .enum-told .given .0 .1 .0) (c .before .before .foresee .ensures) (c .enum-told .given .1)
 
 -- src/lib.rt:165:17
 level-count-requires : tie.Need-level-count-requires
@@ -34,7 +40,11 @@ cast-fill c = search needs
 
 -- src/lib.rt:167:5
 fill-requires : tie.Need-fill-requires
-fill-requires c κs = search needs
+fill-requires c κs =
+    let a = c .before .before .before .before .before .before .before .before .before .before .before .before .before .before .args in
+    let told = c .before .before .before .before .before .answer .given in
+    ready (a .n) (a .start) (a .k) (c .before .before .before .level-count .result) (a .from .now) (a .to .now) (a .marks .now) (a .leaves .now) (a .arrives .now) (a .bears .now)
+    (told .0 .0) (told .0 .1 .0) (told .0 .1 .1 .0) (sym (told .1) ∙ c .before .before .before .before .before .before .before .foresee .ensures) (c .before .before .before .level-count .ensures)
 
 -- src/lib.rt:130:1
 same-length : tie.Need-same-length
@@ -50,7 +60,15 @@ same-length-3 c = search needs
 
 -- src/lib.rt:130:1
 returns-2 : tie.Need-returns-2
-returns-2 c = search needs
+returns-2 c =
+    let a = c .before .before .before .before .before .before .before .before .before .before .before .before .before .before .before .before .before .before .before .before .before .args in
+    let told = c .before .before .before .before .before .before .before .before .before .before .before .before .answer .given in
+    let called = c .before .before .before .before .before .before .fill in
+    let last = called .last .1 .1 .1 .1 .1 in
+    outcome-made (a .n) (a .start) (a .k) (a .from .now) (a .to .now) (a .marks .now) (a .leaves .now) (a .arrives .now) (a .bears .now)
+    (told .0 .0) (told .0 .1 .0) (told .0 .1 .1 .0) (last .0) (last .1 .0) (last .1 .1 .0)
+    (sym (told .1) ∙ c .before .before .before .before .before .before .before .before .before .before .before .before .before .before .foresee .ensures)
+    (called .ensures)
 
 pub translate-spec : {M : Type 1} → statement M
 translate-spec =

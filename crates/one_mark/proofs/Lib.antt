@@ -4,5 +4,6 @@ pub mod Lists
 pub mod Numbers
 pub mod Order
 pub mod Outcomes
+pub mod Position
 pub mod RowParts
 pub mod Wrote

@@ -1,5 +1,7 @@
+pub mod Accepted
 pub mod Answers
 pub mod Climbs
+pub mod Correspond
 pub mod Lists
 pub mod Numbers
 pub mod Order

@@ -17,6 +17,7 @@ use Rattle.one_mark.proofs.Order.{table-row, order-cell, front-up}
 pub record Stands (t : Table) (k q j e : ℕ) : Type 0 where
   pub edge : e < t .edges
   pub level : j < levels k
+  pub state : leaves t e ≡ stateAt t k q
   pub here : place t k j e ≡ q
 
 module _ (t : Table) (proper : Proper t) (k : ℕ) where
@@ -44,6 +45,14 @@ module _ (t : Table) (proper : Proper t) (k : ℕ) where
 
   -- ---- from the position
 
+  -- the row of a position's state is not empty
+  pub some-in-row : (q : ℕ) → q < t .edges * levels k → 0 < rowLength t (stateAt t k q)
+  unfolding stateAt
+  some-in-row q l =
+      let e = q / levels k in
+      let listed : e < t .edges = div-lt-iff-lt-mul some-level .1 l in
+      omega (arith, row-edges (leaves t e), row-from e listed, row-to e listed)
+
   pub stands : (q : ℕ) → q < t .edges * levels k → Stands t k q (levelAt t k q) (under t k q)
   unfolding levelAt under behind stateAt
   stands q l =
@@ -55,12 +64,13 @@ module _ (t : Table) (proper : Proper t) (k : ℕ) where
       let listed : e < t .edges = div-lt-iff-lt-mul some-level .1 l in
       let lower : a * levels k ≤ q = le-div-iff-mul-le some-level .0 (row-from e listed) in
       let upper : q < (a + w) * levels k = div-lt-iff-lt-mul some-level .0 (subst (λ (b : ℕ). e < b) (row-edges s) (row-to e listed)) in
-      let some : 0 < w = omega (arith, row-edges s, row-from e listed, row-to e listed) in
+      let some : 0 < w = some-in-row q l in
       let r : d % w < w = mod-lt d some in
       let j : d / w < levels k = div-lt-iff-lt-mul some .1 (omega arith) in
       record {
         edge = omega (arith, row-edges s, table-row t proper s .ends, proper .from-length);
         level = j;
+        state = row-state s (a + d % w) (omega arith) (omega (arith, row-edges s));
         here = placed s (d / w) (d % w) r ∙ omega (arith, div-add-mod' d w);
       }
 

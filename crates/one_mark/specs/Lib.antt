@@ -3,3 +3,4 @@ pub mod Place
 pub mod Translated
 pub mod Writing
 pub mod Outcome
+pub mod Over

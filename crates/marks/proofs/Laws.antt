@@ -5,10 +5,10 @@ use Prim.Native.Nat.{ℕ, zero, suc, _+_, _-_, _*_, _/_, _%_, _^_, _≤_, _<_, m
 use native.Mathlib.Nat.{pow-suc, div-eq-of-lt, lt-of-lt-of-le, sub-add-cancel, le-of-lt, min-eq-left, min-eq-right}
 use native.Mathlib.Numerals.{one-add}
 use native.Mathlib.Omega.{arith}
-use lib.Bits.{bitAnd, bitOr, and-step, or-step, and-shr, or-shr, or-lt}
-use lib.Pow.{pow-pos, pow-mono, shr-shr, high, ones-split, ones-lt}
+use lib.Bits.{bitAnd, bitOr, bitXor, differ, and-step, or-step, xor-step, and-shr, or-shr, xor-shr, or-lt}
+use lib.Pow.{pow-pos, pow-mono, pow-lt, pow-add, shl-shr, shr-shr, high, ones-split, ones-lt}
 use lib.Arith.{bin-ind}
-use Rattle.marks.specs.Mark.{has, union, Meets, Covers, firstMarks}
+use Rattle.marks.specs.Mark.{has, union, without, Meets, Covers, firstMarks}
 use Rattle.marks.proofs.Cases.{same, below}
 
 -- ---- one mark of a set, as a digit
@@ -18,6 +18,18 @@ or-digit a b i = rw (or-shr a b i) (omega (arith, or-step (a / 2 ^ i) (b / 2 ^ i
 
 and-digit : (a b i : ℕ) → bitAnd a b / 2 ^ i % 2 ≡ min (a / 2 ^ i % 2) (b / 2 ^ i % 2)
 and-digit a b i = rw (and-shr a b i) (omega (arith, and-step (a / 2 ^ i) (b / 2 ^ i)))
+
+odd-differ : (x y : ℕ) → x < 2 → y < 2 → differ x y ≡ (x + y) % 2
+odd-differ zero y hx hy = omega arith
+odd-differ (suc zero) zero hx hy = refl
+odd-differ (suc zero) (suc zero) hx hy = refl
+odd-differ (suc zero) (suc (suc y)) hx hy = absurd (omega arith)
+odd-differ (suc (suc x)) y hx hy = absurd (omega arith)
+
+xor-digit : (a b i : ℕ) → bitXor a b / 2 ^ i % 2 ≡ (a / 2 ^ i % 2 + b / 2 ^ i % 2) % 2
+xor-digit a b i =
+    let d = odd-differ (a / 2 ^ i % 2) (b / 2 ^ i % 2) (omega arith) (omega arith) in
+    rw (xor-shr a b i) (omega (arith, xor-step (a / 2 ^ i) (b / 2 ^ i), d))
 
 half-digit : (x i : ℕ) → x / 2 / 2 ^ i % 2 ≡ x / 2 ^ suc i % 2
 half-digit x i = ap (λ (y : ℕ). y % 2) (shr-shr x 1 i ∙ ap (λ (j : ℕ). x / 2 ^ j) (one-add i))
@@ -65,6 +77,17 @@ has-union i a b = (to, from)
     from : (a / 2 ^ i % 2 ≡ 1) ⊎ (b / 2 ^ i % 2 ≡ 1) → bitOr a b / 2 ^ i % 2 ≡ 1
     from (inl h) = omega (arith, or-digit a b i)
     from (inr h) = omega (arith, or-digit a b i)
+
+-- what is left of a has exactly the marks of a that b has not
+pub has-without : (i a b : ℕ) → has i (without a b) ↔ (has i a × (has i b → ⊥))
+unfolding has without
+has-without i a b = (to, from)
+  where
+    to : bitXor (bitAnd a b) a / 2 ^ i % 2 ≡ 1 → (a / 2 ^ i % 2 ≡ 1) × (b / 2 ^ i % 2 ≡ 1 → ⊥)
+    to h = (omega (arith, xor-digit (bitAnd a b) a i, and-digit a b i), λ (k : b / 2 ^ i % 2 ≡ 1). omega (arith, xor-digit (bitAnd a b) a i, and-digit a b i))
+
+    from : (a / 2 ^ i % 2 ≡ 1) × (b / 2 ^ i % 2 ≡ 1 → ⊥) → bitXor (bitAnd a b) a / 2 ^ i % 2 ≡ 1
+    from h = let n : b / 2 ^ i % 2 ≢ 1 = h .1 in omega (arith, h .0, xor-digit (bitAnd a b) a i, and-digit a b i)
 
 -- a set that has any number above 0 has a mark
 pub some-mark : (x : ℕ) → x ≢ 0 → (i : ℕ) × has i x
@@ -145,6 +168,31 @@ has-first w i k = (to, from)
 
     from : (i < k) × (i < w) → has i (2 ^ min k w - 1)
     from l = has-ones i (min k w) .1 (omega (arith, l .0, l .1))
+
+-- ---- one mark alone
+
+-- the set of mark j alone has exactly that mark
+pub has-power : (i j : ℕ) → has i (2 ^ j) ↔ (i ≡ j)
+unfolding has
+has-power i j = (to, from)
+  where
+    shifted : i ≤ j → 2 ^ j / 2 ^ i ≡ 2 ^ (j - i)
+    shifted l =
+        let e : (j - i) + i ≡ j = omega arith in
+        ap (λ (n : ℕ). 2 ^ n / 2 ^ i) (sym e) ∙ ap (λ (x : ℕ). x / 2 ^ i) (pow-add 2 (j - i) i) ∙ shl-shr (2 ^ (j - i)) i
+
+    to : 2 ^ j / 2 ^ i % 2 ≡ 1 → i ≡ j
+    to h =
+        below j i
+        (λ l. absurd (omega (arith, div-eq-of-lt (pow-lt l))))
+        (λ l. same i j (λ q. q) (λ q.
+          let e : suc (j - i - 1) ≡ j - i = omega arith in
+          absurd (omega (arith, shifted l, ap (λ (n : ℕ). 2 ^ n) e, pow-suc 2 (j - i - 1)))))
+
+    from : i ≡ j → 2 ^ j / 2 ^ i % 2 ≡ 1
+    from q =
+        let e : j - i ≡ 0 = omega arith in
+        ap (λ (x : ℕ). x % 2) (shifted (omega arith) ∙ ap (λ (n : ℕ). 2 ^ n) e)
 
 -- ---- what fits a word
 

@@ -2,7 +2,7 @@
 -- What is plain of each definition is proved once for every width in proofs/Laws.antt. Assumes nothing.
 use mathlib.Core.Path.{_≡_}
 use Prim.Native.Nat.{ℕ, _-_, _/_, _%_, _^_, _<_, min}
-use lib.Bits.{bitOr}
+use lib.Bits.{bitAnd, bitOr, bitXor}
 
 -- how many marks one set can hold
 abbrev pub width : ℕ
@@ -15,6 +15,10 @@ has i x = x / 2 ^ i % 2 ≡ 1
 -- the marks of either set (`has-union`: it has exactly what either has)
 unfoldable pub union : ℕ → ℕ → ℕ
 union a b = bitOr a b
+
+-- the marks of a that b has not (`has-without`)
+unfoldable pub without : ℕ → ℕ → ℕ
+without a b = bitXor (bitAnd a b) a
 
 -- some mark is in both sets
 pub record Meets (a b : ℕ) : Type 0 where

@@ -1,9 +1,10 @@
 // Mark sets: a set of marks is one word, and mark i is bit i (document 01, "Tables, walks and lassos").
 // Relies on nothing. What `has` means is in specs/Mark.antt; the laws, over every width, are in proofs/Laws.antt.
 ghost use mathlib.Core.Path.{_≡_};
+ghost use Prim.Native.Nat.{ℕ, _<_};
 ghost use mathlib.Core.Bool.{true};
 ghost use mathlib.Core.Logic.{_↔_};
-ghost use Rattle.marks.specs.Mark.{has, union, Meets, Covers, firstMarks, width};
+ghost use Rattle.marks.specs.Mark.{has, union, without, Meets, Covers, firstMarks, width};
 
 // A set of marks, and how many marks one can hold. specs/Mark.antt has the same number, as `width`.
 pub type Marks = u32;
@@ -25,6 +26,13 @@ pub fn join(a: Marks, b: Marks) -> Marks
     ensures { λ r. ⌜ r ≡ union a b ⌝ }
 {
     a | b
+}
+
+// The marks of the first set that the second has not.
+pub fn leave(a: Marks, b: Marks) -> Marks
+    ensures { λ r. ⌜ r ≡ without a b ⌝ }
+{
+    a & b ^ a
 }
 
 // Whether some mark is in both sets.
@@ -49,4 +57,14 @@ pub fn first_marks(k: u32) -> Marks
         return 4294967295;
     }
     (1 << k) - 1
+}
+
+// The set of one mark alone; none where the mark is the width or above.
+pub fn just(mark: u32) -> Marks
+    ensures { λ r. ⌜ ((i : ℕ) → has i r ↔ ((i ≡ mark) × (mark < width))) ⌝ }
+{
+    if WIDTH <= mark {
+        return 0;
+    }
+    1 << mark
 }

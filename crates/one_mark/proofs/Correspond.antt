@@ -76,7 +76,7 @@ module _ (t : Table) (proper : Proper t) (k : ℕ) where
   over-under s j (e ∷ es) z l w =
       rw (under-place t proper k e j (w .1 .0 .listed) l, over-under (w .0) (landing k (borne t e) j) es z (landing-below k (borne t e) j) (w .1 .1))
 
-  over-length : (j : ℕ) (es : List ℕ) → length (over t k j es) ≡ length es
+  pub over-length : (j : ℕ) (es : List ℕ) → length (over t k j es) ≡ length es
   over-length j [] = refl
   over-length j (e ∷ es) = ap suc (over-length (landing k (borne t e) j) es)
 
@@ -100,7 +100,7 @@ module _ (t : Table) (proper : Proper t) (k : ℕ) where
         same = ap {B = List ℕ} (λ x. x ∷ qs) (d .here) ∙ ap {B = List ℕ} (λ xs. place t k j (under t k q) ∷ xs) (rest .same);
       }
 
-  under-length : (qs : List ℕ) → length (map (under t k) qs) ≡ length qs
+  pub under-length : (qs : List ℕ) → length (map (under t k) qs) ≡ length qs
   under-length [] = refl
   under-length (q ∷ qs) = ap suc (under-length qs)
 

@@ -2,10 +2,13 @@ pub mod Accepted
 pub mod Answers
 pub mod Climbs
 pub mod Correspond
+pub mod Laps
 pub mod Lists
 pub mod Numbers
 pub mod Order
 pub mod Outcomes
+pub mod Pigeon
 pub mod Position
 pub mod RowParts
+pub mod Turns
 pub mod Wrote

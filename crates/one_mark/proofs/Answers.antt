@@ -69,18 +69,20 @@ module _ (t : Table) (k a b c : ℕ) where
 
 -- ---- what a table that was made says of the input
 
-pub record Granted (t : Table) (k a b c edges : ℕ) : Type 0 where
+pub record Granted (t : Table) (k a b c states edges start : ℕ) : Type 0 where
   pub sound : refusal t (Buchi k) [] ≡ Sound
   pub few : t .states * levels k ≤ mostStates
   pub few-edges : t .edges * levels k ≤ mostEdges
   pub first-room : t .edges * levels k ≤ a
   pub second-room : t .edges * levels k ≤ b
   pub third-room : t .edges * levels k ≤ c
+  pub state-count : states ≡ t .states * levels k
   pub count : edges ≡ t .edges * levels k
+  pub begins : start ≡ number k (t .start) 0
 
 module _ (t : Table) (k a b c states edges start : ℕ) (made : Made states edges start ≡ answer t k a b c) where
   by-room : refusal t (Buchi k) [] ≡ Sound → large (t .states * levels k) (t .edges * levels k) ≡ false
-      → (s : Bool) → short (t .edges * levels k) a b c ≡ s → Granted t k a b c edges
+      → (s : Bool) → short (t .edges * levels k) a b c ≡ s → Granted t k a b c states edges start
   by-room q r true s = absurd (let z : _≡_ {A = ℕ} 0 1 = cc (answer-short t k a b c q r s) in omega arith)
   by-room q r false s =
       let counts = not-either (ltb mostStates (t .states * levels k)) _ r in
@@ -93,16 +95,18 @@ module _ (t : Table) (k a b c states edges start : ℕ) (made : Made states edge
         first-room = ltb-false a (t .edges * levels k) (one .0);
         second-room = ltb-false b (t .edges * levels k) (two .0);
         third-room = ltb-false c (t .edges * levels k) (two .1);
+        state-count = cc (answer-made t k a b c q r s);
         count = cc (answer-made t k a b c q r s);
+        begins = cc (answer-made t k a b c q r s);
       }
 
-  by-size : refusal t (Buchi k) [] ≡ Sound → (l : Bool) → large (t .states * levels k) (t .edges * levels k) ≡ l → Granted t k a b c edges
+  by-size : refusal t (Buchi k) [] ≡ Sound → (l : Bool) → large (t .states * levels k) (t .edges * levels k) ≡ l → Granted t k a b c states edges start
   by-size q true r = absurd (let z : _≡_ {A = ℕ} 0 1 = cc (answer-large t k a b c q r) in omega arith)
   by-size q false r = by-room q r (short (t .edges * levels k) a b c) refl
 
-  by-finding : (f : Finding) → refusal t (Buchi k) [] ≡ f → Granted t k a b c edges
+  by-finding : (f : Finding) → refusal t (Buchi k) [] ≡ f → Granted t k a b c states edges start
   by-finding (Faulty number place) q = absurd (let z : _≡_ {A = ℕ} 0 1 = cc (answer-faulty t k a b c number place q) in omega arith)
   by-finding Sound q = by-size q (large (t .states * levels k) (t .edges * levels k)) refl
 
-  pub granted : Granted t k a b c edges
+  pub granted : Granted t k a b c states edges start
   granted = by-finding (refusal t (Buchi k) []) refl

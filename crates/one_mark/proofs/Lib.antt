@@ -2,6 +2,7 @@ pub mod Accepted
 pub mod Answers
 pub mod Climbs
 pub mod Correspond
+pub mod Faithful
 pub mod Laps
 pub mod Lists
 pub mod Numbers
@@ -10,5 +11,6 @@ pub mod Outcomes
 pub mod Pigeon
 pub mod Position
 pub mod RowParts
+pub mod Shifts
 pub mod Turns
 pub mod Wrote

@@ -4,3 +4,5 @@ pub mod Translated
 pub mod Writing
 pub mod Outcome
 pub mod Over
+pub mod Faithful
+pub mod Shifts

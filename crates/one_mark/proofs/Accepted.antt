@@ -61,12 +61,12 @@ module _ (t : Table) (proper : Proper t) (k : ℕ) where
         few-edges = few-edges;
         start-below = number-below (t .states) (levels k) (t .start) 0 (proper .start-below) (omega arith);
         from-below = λ q l.
-          let p = stands t proper k q l in
-          rw (cell-at t proper k (liftedFrom t k) q l) (number-below (t .states) (levels k) (leaves t (under t k q)) (levelAt t k q) (proper .from-below (under t k q) (p .edge)) (p .level));
+            let p = stands t proper k q l in
+            rw (cell-at t proper k (liftedFrom t k) q l) (number-below (t .states) (levels k) (leaves t (under t k q)) (levelAt t k q) (proper .from-below (under t k q) (p .edge)) (p .level));
         to-below = λ q l.
-          let p = stands t proper k q l in
-          rw (cell-at t proper k (liftedTo t k) q l)
-          (number-below (t .states) (levels k) (getD (t .to) (under t k q) 0) (landing k (borne t (under t k q)) (levelAt t k q)) (proper .to-below (under t k q) (p .edge)) (landing-below k (borne t (under t k q)) (levelAt t k q)));
+            let p = stands t proper k q l in
+            rw (cell-at t proper k (liftedTo t k) q l)
+            (number-below (t .states) (levels k) (getD (t .to) (under t k q) 0) (landing k (borne t (under t k q)) (levelAt t k q)) (proper .to-below (under t k q) (p .edge)) (landing-below k (borne t (under t k q)) (levelAt t k q)));
         sorted = from-up;
       }
 

@@ -57,7 +57,7 @@ positions t proper k =
 -- ---- a table that was made
 
 module _ (n start : ℕ) (from to marks : List ℕ) (k a b c states edges first : ℕ)
-  (made : Made states edges first ≡ answer (lent n start from to marks) k a b c) where
+    (made : Made states edges first ≡ answer (lent n start from to marks) k a b c) where
   pub faithful : Faithful (lent n start from to marks) k
   faithful =
       let t = lent n start from to marks in
@@ -86,7 +86,10 @@ outputs-hold n start from to marks k l a b states edges first l' a' b' o =
     let t = lent n start from to marks in
     let g = granted t k (length l) (length a) (length b) states edges first (o .answered) in
     let proper = fit n start k from to marks (g .sound) .proper in
-    rw (front (translated t k .from) l l' edges (o .from-held) (whole-length t proper k (liftedFrom t k) ∙ sym (g .count)),
+    rw (
+      front (translated t k .from) l l' edges (o .from-held) (whole-length t proper k (liftedFrom t k) ∙ sym (g .count)),
       front (translated t k .to) a a' edges (o .to-held) (whole-length t proper k (liftedTo t k) ∙ sym (g .count)),
       front (translated t k .marks) b b' edges (o .marks-held) (whole-length t proper k (liftedMarks t k) ∙ sym (g .count)),
-      g .state-count, g .begins) (lent-again t proper k)
+      g .state-count,
+      g .begins,
+    ) (lent-again t proper k)

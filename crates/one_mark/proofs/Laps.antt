@@ -41,14 +41,14 @@ module _ (t : Table) (k : ℕ) where
   climbed j (e ∷ es) none =
       lands k (borne t e) j
       (λ l lands-at b.
-        let rest = climbed (landing k (borne t e) j) es (omega arith) in
-        record {
-          low = omega (arith, reached-low k (borne t e) j, rest .low);
-          passed = λ i h m.
+      let rest = climbed (landing k (borne t e) j) es (omega arith) in
+      record {
+        low = omega (arith, reached-low k (borne t e) j, rest .low);
+        passed = λ i h m.
             below i (landing k (borne t e) j)
             (λ n. first-bears i e es (reached-passed k (borne t e) j i h (omega arith)))
             (λ n. others-bear i e es (rest .passed i n m));
-        })
+      })
       (λ l lands-at b. absurd (omega arith))
 
   -- and one that bears its level's mark gets higher
@@ -57,15 +57,15 @@ module _ (t : Table) (k : ℕ) where
   moves j (e ∷ es) none l h =
       lands k (borne t e) j
       (λ m lands-at b.
-        let j' = landing k (borne t e) j in
-        let rest = climbed j' es (omega arith) in
-        ⊎-elim (λ n. omega (arith, reached-moves k (borne t e) j l n, rest .low))
-        (λ (n : has j (marksOf t es)).
-          below j j' (λ up. omega (arith, rest .low))
-          (λ stay.
-            let same-level : j ≡ j' = omega (arith, reached-low k (borne t e) j) in
-            omega (arith, moves j' es (omega arith) (omega arith) (subst (λ (i : ℕ). has i (marksOf t es)) same-level n))))
-        (has-union j (borne t e) (marksOf t es) .0 h))
+      let j' = landing k (borne t e) j in
+      let rest = climbed j' es (omega arith) in
+      ⊎-elim (λ n. omega (arith, reached-moves k (borne t e) j l n, rest .low))
+      (λ (n : has j (marksOf t es)).
+      below j j' (λ up. omega (arith, rest .low))
+      (λ stay.
+      let same-level : j ≡ j' = omega (arith, reached-low k (borne t e) j) in
+      omega (arith, moves j' es (omega arith) (omega arith) (subst (λ (i : ℕ). has i (marksOf t es)) same-level n))))
+      (has-union j (borne t e) (marksOf t es) .0 h))
       (λ m lands-at b. absurd (omega arith))
 
   -- ---- a walk that passes the top bears every mark from its first level up, and every mark below its last
@@ -79,23 +79,23 @@ module _ (t : Table) (k : ℕ) where
   topped j (e ∷ es) some =
       lands k (borne t e) j
       (λ l lands-at b.
-        let rest = topped (landing k (borne t e) j) es (omega arith) in
-        record {
-          high = λ i h m.
+      let rest = topped (landing k (borne t e) j) es (omega arith) in
+      record {
+        high = λ i h m.
             below i (landing k (borne t e) j)
             (λ n. first-bears i e es (reached-passed k (borne t e) j i h (omega arith)))
             (λ n. others-bear i e es (rest .high i n m));
-          low = λ i h. others-bear i e es (rest .low i h);
-        })
+        low = λ i h. others-bear i e es (rest .low i h);
+      })
       (λ l lands-at b.
-        record {
-          high = λ i h m. first-bears i e es (reached-passed k (borne t e) j i h (omega arith));
-          low = λ i h.
+      record {
+        high = λ i h m. first-bears i e es (reached-passed k (borne t e) j i h (omega arith));
+        low = λ i h.
             others-bear i e es
             (same (tops t k (landing k (borne t e) j) es) 0
             (λ none. climbed (landing k (borne t e) j) es none .passed i (omega arith) h)
             (λ more. topped (landing k (borne t e) j) es (omega arith) .low i h));
-        })
+      })
 
   -- ---- a turn that bears every mark and comes back to its level has passed the top
 
@@ -104,9 +104,9 @@ module _ (t : Table) (k : ℕ) where
   turn-tops j (e ∷ es) l long all back =
       same (tops t k j (e ∷ es)) 0
       (λ none.
-        lands k (borne t e) j
-        (λ m lands-at b. absurd (omega (arith, moves j (e ∷ es) none (omega arith) (all j (omega arith)))))
-        (λ m lands-at b. absurd (omega arith)))
+      lands k (borne t e) j
+      (λ m lands-at b. absurd (omega (arith, moves j (e ∷ es) none (omega arith) (all j (omega arith)))))
+      (λ m lands-at b. absurd (omega arith)))
       (λ some. omega arith)
 
 -- ---- the marks of the translated walk tell whether it passes the top
@@ -125,9 +125,9 @@ module _ (t : Table) (proper : Proper t) (k : ℕ) where
       let j' = landing k (borne t e) j in
       ⊎-elim
       (λ (b : has 0 (borne (translated t k) (place t k j e))).
-        lands k (borne t e) j
-        (λ m lands-at none. absurd (has-none 0 (subst (has 0) (bears-place e j (w .1 .0 .listed) l ∙ none) b)))
-        (λ m lands-at one. omega arith))
+      lands k (borne t e) j
+      (λ m lands-at none. absurd (has-none 0 (subst (has 0) (bears-place e j (w .1 .0 .listed) l ∙ none) b)))
+      (λ m lands-at one. omega arith))
       (λ (r : has 0 (marksOf (translated t k) (over t k j' es))). omega (arith, marked-tops (w .0) j' es z (landing-below k (borne t e) j) (w .1 .1) r))
       (has-union 0 (borne (translated t k) (place t k j e)) (marksOf (translated t k) (over t k j' es)) .0 h)
 

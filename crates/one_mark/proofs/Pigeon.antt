@@ -22,10 +22,10 @@ seek f x zero = inr (λ i l e. omega arith)
 seek f x (suc n) =
     same (f n) x (λ e. inl (n, (omega arith, e)))
     (λ ne.
-      ⊎-elim (λ (p : (i : ℕ) × ((i < n) × (f i ≡ x))). inl (p .0, (omega (arith, p .1 .0), p .1 .1)))
-      (λ (none : (i : ℕ) → i < n → f i ≡ x → ⊥).
-        inr (λ i l e. same i n (λ q. ne (sym (ap f q) ∙ e)) (λ q. none i (omega arith) e)))
-      (seek f x n))
+    ⊎-elim (λ (p : (i : ℕ) × ((i < n) × (f i ≡ x))). inl (p .0, (omega (arith, p .1 .0), p .1 .1)))
+    (λ (none : (i : ℕ) → i < n → f i ≡ x → ⊥).
+    inr (λ i l e. same i n (λ q. ne (sym (ap f q) ∙ e)) (λ q. none i (omega arith) e)))
+    (seek f x n))
 
 -- where the last value is taken nowhere before, it may stand for n: then n + 1 numbers are below n
 module _ (n : ℕ) (f : ℕ → ℕ) (low : (i : ℕ) → i ≤ suc n → f i < suc n) (none : (i : ℕ) → i < suc n → f i ≡ f (suc n) → ⊥) where
@@ -56,12 +56,12 @@ twice (suc n) f low =
     ⊎-elim
     (λ (p : (i : ℕ) × ((i < suc n) × (f i ≡ f (suc n)))). record { u = p .0; v = suc n; less = p .1 .0; most = omega arith; agree = p .1 .1 })
     (λ (none : (i : ℕ) → i < suc n → f i ≡ f (suc n) → ⊥).
-      let r = twice n (others n f low none) (others-low n f low none) in
-      record {
-        u = r .u;
-        v = r .v;
-        less = r .less;
-        most = omega (arith, r .most);
-        agree = others-agree n f low none (r .u) (r .v) (omega (arith, r .less, r .most)) (r .most) (r .agree);
-      })
+    let r = twice n (others n f low none) (others-low n f low none) in
+    record {
+      u = r .u;
+      v = r .v;
+      less = r .less;
+      most = omega (arith, r .most);
+      agree = others-agree n f low none (r .u) (r .v) (omega (arith, r .less, r .most)) (r .most) (r .agree);
+    })
     (seek f (f (suc n)) (suc n))

@@ -53,7 +53,7 @@ module _ (t : Table) (proper : Proper t) (k : ℕ) where
       let after = walk-down t proper k z j c (number k z j) l (subst (λ (x : ℕ). Walk (translated t k) x c x) (before .ends) (lasso .closes)) in
       let back = number-same (levels k) z j (after .end) (levelAfter t k j es) l (level-below t k j es l) (after .ends) in
       let some : 0 < tops t k j es = marked-tops t proper k z j es (after .end) l (after .walk)
-          (subst (λ (qs : List ℕ). has 0 (marksOf (translated t k) qs)) (after .same) (acc .meets 0 (omega arith))) in
+      (subst (λ (qs : List ℕ). has 0 (marksOf (translated t k) qs)) (after .same) (acc .meets 0 (omega arith))) in
       record {
         lasso = record {
           knot = z;
@@ -68,7 +68,7 @@ module _ (t : Table) (proper : Proper t) (k : ℕ) where
 
   -- the levels at the knot after u and after v turns agree
   module _ (a c : List ℕ) (acc : Accepted t (Buchi k) [] a c) (u v : ℕ) (less : u < v)
-    (agree : levelAfter t k (levelAfter t k 0 a) (turns u c) ≡ levelAfter t k (levelAfter t k 0 a) (turns v c)) where
+      (agree : levelAfter t k (levelAfter t k 0 a) (turns u c) ≡ levelAfter t k (levelAfter t k 0 a) (turns v c)) where
     -- the level there
     abbrev level : ℕ
     level = levelAfter t k 0 (a ++ turns u c)
@@ -135,6 +135,6 @@ module _ (t : Table) (proper : Proper t) (k : ℕ) where
         cycle = over t k (levelAfter t k 0 (a ++ turns u c)) (turns (v - u) c);
         prefix-over = over-under t proper k (t .start) 0 (a ++ turns u c) z (omega arith) (prefix-walk a c acc u v (found .less) (found .agree));
         cycle-over = over-under t proper k z (levelAfter t k 0 (a ++ turns u c)) (turns (v - u) c) z
-          (level-below t k 0 (a ++ turns u c) (omega arith)) (cycle-walk a c acc u v (found .less) (found .agree));
+            (level-below t k 0 (a ++ turns u c) (omega arith)) (cycle-walk a c acc u v (found .less) (found .agree));
         accepted = closed a c acc u v (found .less) (found .agree);
       }

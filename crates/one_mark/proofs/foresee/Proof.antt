@@ -104,10 +104,11 @@ number-of-requires : tie.Need-number-of-requires
 number-of-requires c κs =
     let a = c .before .before .before .before .before .before .before .before .before .before .before .args in
     let s = sound (c .before .before .before .before) in
-    let count = c .before .before .before .before .level-count .ensures in
-    (ladder (a .n) (a .start) (a .k) (a .from .now) (a .to .now) (a .marks .now) s (c .before .before .before .before .level-count .result) count
-      (not-large _ (length (a .from .now) * levels (a .k)) (sym (large-told (c .before .before .before)) ∙ c .before .before .if1 .left)),
-      (start-below (a .n) (a .start) (a .k) (a .from .now) (a .to .now) (a .marks .now) s, omega arith))
+    let count = c .before .before .before .before .level-count .ensures in (
+      ladder (a .n) (a .start) (a .k) (a .from .now) (a .to .now) (a .marks .now) s (c .before .before .before .before .level-count .result) count
+          (not-large _ (length (a .from .now) * levels (a .k)) (sym (large-told (c .before .before .before)) ∙ c .before .before .if1 .left)),
+      (start-below (a .n) (a .start) (a .k) (a .from .now) (a .to .now) (a .marks .now) s, omega arith),
+    )
 
 -- src/lib.rt:91:16
 cast-t24 : tie.Need-cast-t24
@@ -119,7 +120,7 @@ returns-4 c =
     let entry = c .before .before .before .before .before .before .before .before .before .before .before .before in
     let a = entry .args in
     let made = answer-made (table entry) (a .k) (a .a) (a .b) (a .c) (sound (c .before .before .before .before .before))
-        (sym (large-told (c .before .before .before .before)) ∙ c .before .before .before .if1 .left) (sym (short-told (c .before .before)) ∙ c .before .if2 .left) in
+    (sym (large-told (c .before .before .before .before)) ∙ c .before .before .before .if1 .left) (sym (short-told (c .before .before)) ∙ c .before .if2 .left) in
     rw (c .number-of .ensures, c .before .before .before .before .before .level-count .ensures) made
 
 pub foresee-spec : {M : Type 1} → statement M

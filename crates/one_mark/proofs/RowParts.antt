@@ -20,8 +20,15 @@ use Rattle.one_mark.proofs.Numbers.{rows-fit}
 use Rattle.one_mark.proofs.Order.{sorted, begins-front, order-length}
 use Rattle.one_mark.proofs.Wrote.{Kept, wrote-run}
 
--- the row of s begins at edge a and is w edges long
-module _ (t : Table) (proper : Proper t) (s a w : ℕ) (begins : Begins (t .from) s a) (long : w ≡ run s (part a (length (t .from)) (t .from))) where
+-- in the table t the row of s begins at edge a and is w edges long
+pub record RowAt (t : Table) (s a w : ℕ) : Type 0 where
+  pub proper : Proper t
+  pub begins : Begins (t .from) s a
+  pub long : w ≡ run s (part a (length (t .from)) (t .from))
+
+module _ {t : Table} {s a w : ℕ} (at : RowAt t s a w) where
+  open RowAt at using (proper, begins, long)
+
   row : Row (t .from) s a (a + w)
   row =
       let whole : part a (length (t .from)) (t .from) ≡ drop a (t .from) = take-all (length (t .from) - a) (drop a (t .from)) (omega (arith, length-drop a (t .from))) in
@@ -71,9 +78,8 @@ module _ (t : Table) (proper : Proper t) (s a w : ℕ) (begins : Begins (t .from
       (λ j l h. rw (to-long, width, here) (cells-same (g j) (f j) 0 a w (λ i m. rw (zero-add i) (alike j i m))))
 
   -- there is room for one row more
-  pub row-room : (K p : ℕ) (l b c l' b' c' : List ℕ) → Room 0 (t .edges * K) l b c → Kept l b c l' b' c' → p ≡ a * K
-      → Room p (K * length to-part) l' b' c'
-  row-room K p l b c l' b' c' room kept e =
+  pub row-room : {l b c l' b' c' : List ℕ} (K p : ℕ) → Room 0 (t .edges * K) l b c → Kept l b c l' b' c' → p ≡ a * K → Room p (K * length to-part) l' b' c'
+  row-room K p room kept e =
       rw to-long
       (record {
         for-from = omega (arith, rows-fit (a + w) (t .edges) K row-ends);
@@ -85,23 +91,26 @@ module _ (t : Table) (proper : Proper t) (s a w : ℕ) (begins : Begins (t .from
   pub row-placed : (K p r : ℕ) → p ≡ a * K → r ≡ p + K * length to-part → r ≡ (a + w) * K
   row-placed K p r e q = q ∙ rw to-long (omega arith)
 
-  -- and it is written behind those before
-  pub row-behind : (k K p : ℕ) (l b c l' b' c' l'' b'' c'' : List ℕ) → K ≡ levels k → p ≡ a * K
+  from-alike : (k j i : ℕ) → i < w → number k s j ≡ liftedFrom t k j (a + i)
+  from-alike k j i l = rw (row .inside (a + i) (omega arith) (omega arith))
+
+  to-alike : (k j i : ℕ) → i < w → number k (getD to-part i 0) (landing k (getD marks-part i 0) j) ≡ liftedTo t k j (a + i)
+  to-alike k j i l = rw (to-at i l, marks-at i l)
+
+  marks-alike : (k j i : ℕ) → i < w → bearing k (getD marks-part i 0) j ≡ liftedMarks t k j (a + i)
+  marks-alike k j i l = rw (marks-at i l)
+
+  -- the row is written behind those before
+  pub row-behind : {l b c l' b' c' l'' b'' c'' : List ℕ} (k K p : ℕ) → K ≡ levels k → p ≡ a * K
       → StatesWritten t k s l b c l' b' c' → RowWritten k s K p to-part marks-part l' b' c' l'' b'' c'' → StatesWritten t k (s + 1) l b c l'' b'' c''
-  row-behind k K p l b c l' b' c' l'' b'' c'' all e written more =
+  row-behind k K p all e written more =
       let here : rowStart t s ≡ a = begins-front (t .from) s a (sorted t proper) begins in
-      let at : a * K ≡ rowStart t s * levels k = rw (all, here) in
-      wrote-run 0 p (rowCells t k (liftedFrom t k)) (rowCells t k (liftedTo t k)) (rowCells t k (liftedMarks t k)) s l b c l' b' c' l'' b'' c'' written
-      (rw (all, cells-of-parts k (λ j i. number k s j) (liftedFrom t k) from-alike, cells-of-parts k (λ j i. number k (getD to-part i 0) (landing k (getD marks-part i 0) j)) (liftedTo t k) to-alike, cells-of-parts k (λ j i. bearing k (getD marks-part i 0) j) (liftedMarks t k) marks-alike) at more)
+      let place : a * K ≡ rowStart t s * levels k = rw (all, here) in
+      let from-parts = cells-of-parts k (λ j i. number k s j) (liftedFrom t k) (from-alike k) in
+      let to-parts = cells-of-parts k (λ j i. number k (getD to-part i 0) (landing k (getD marks-part i 0) j)) (liftedTo t k) (to-alike k) in
+      let marks-parts = cells-of-parts k (λ j i. bearing k (getD marks-part i 0) j) (liftedMarks t k) (marks-alike k) in
+      wrote-run 0 p (rowCells t k (liftedFrom t k)) (rowCells t k (liftedTo t k)) (rowCells t k (liftedMarks t k)) s written
+      (rw (all, from-parts, to-parts, marks-parts) at more)
       (omega (arith, order-length t k (liftedFrom t k) s))
       (omega (arith, order-length t k (liftedTo t k) s))
       (omega (arith, order-length t k (liftedMarks t k) s))
-    where
-      from-alike : (j i : ℕ) → i < w → number k s j ≡ liftedFrom t k j (a + i)
-      from-alike j i l = rw (row .inside (a + i) (omega arith) (omega arith))
-
-      to-alike : (j i : ℕ) → i < w → number k (getD to-part i 0) (landing k (getD marks-part i 0) j) ≡ liftedTo t k j (a + i)
-      to-alike j i l = rw (to-at i l, marks-at i l)
-
-      marks-alike : (j i : ℕ) → i < w → bearing k (getD marks-part i 0) j ≡ liftedMarks t k j (a + i)
-      marks-alike j i l = rw (marks-at i l)

@@ -53,10 +53,10 @@ fn land(marks: u32, level: u32, k: u32) -> Landing
     requires { ⌜ k ≤ width ⌝ }
     ensures { λ r. ⌜ (r .level ≡ landing k marks level) × (r .marks ≡ bearing k marks level) ⌝ }
 {
-    let top = climb(marks, level, k);
-    if top < k {
+    let reached = climb(marks, level, k);
+    if reached < k {
         return Landing {
-            level: top,
+            level: reached,
             marks: 0,
         };
     }

@@ -1,8 +1,8 @@
 -- What each answer of the translation follows from, and what follows from it. Assumes nothing.
-use mathlib.Core.Path.{_≡_, refl, sym, ap, _∙_}
+use mathlib.Core.Path.{_≡_, refl, sym, ap, _∙_, subst}
 use mathlib.Core.Bool.{Bool, true, false, false≢true}
 use mathlib.Core.List.{List, []}
-use Prim.Native.Nat.{ℕ, _+_, _*_, _≤_, _<_}
+use Prim.Native.Nat.{ℕ, zero, suc, _*_, _≤_, _<_}
 use native.Mathlib.Nat.{mul-le-mul}
 use native.Mathlib.Omega.{arith}
 use lib.ListN.{length}
@@ -13,13 +13,13 @@ use Rattle.table.specs.declared.Acceptance.the-variants.{Buchi}
 use Rattle.table.specs.declared.Finding.{Finding}
 use Rattle.table.specs.declared.Finding.the-variants.{Sound, Refused as Faulty}
 use Rattle.table.specs.Table.{Table, lent}
-use Rattle.table.specs.Refusal.{refusal, either, mostStates, mostEdges, Proper}
+use Rattle.table.specs.Refusal.{refusal, edgeRefusal, pick, either, wrongStates, wrongEdges, wrongStart, wrongCondition, wrongEnd, wrongOrder, wrongMark, mostStates, mostEdges}
 use Rattle.table.proofs.Sound.{Fit, sound-fit, used-few}
 use Rattle.one_mark.specs.declared.Translation.{Translation}
 use Rattle.one_mark.specs.declared.Translation.the-variants.{Made, Refused}
 use Rattle.one_mark.specs.Climb.{levels, number}
-use Rattle.one_mark.specs.Outcome.{large, short, first, unless, answer}
-use Rattle.one_mark.specs.Writing.{Ladder, Room}
+use Rattle.one_mark.specs.Outcome.{large, short, answer, numberOf}
+use Rattle.one_mark.specs.Writing.{Ladder}
 
 not-either : (a b : Bool) → either a b ≡ false → (a ≡ false) × (b ≡ false)
 not-either true b e = absurd (false≢true (sym e))
@@ -67,25 +67,51 @@ module _ (t : Table) (k a b c : ℕ) where
           → Made (t .states * levels k) (t .edges * levels k) (number k (t .start) 0) ≡ answer t k a b c
       answer-made e = rw (sound, fits, e)
 
--- ---- what a table that was made says of the input
+-- ---- a refusal's number is not 0
 
-pub record Granted (t : Table) (k a b c states edges start : ℕ) : Type 0 where
+abbrev Numbered : Finding → Type 0
+Numbered Sound = Unit
+Numbered (Faulty number place) = 0 < number
+
+numbered-pick : (b : Bool) (f g : Finding) → Numbered f → Numbered g → Numbered (pick b f g)
+numbered-pick true f g x y = x
+numbered-pick false f g x y = y
+
+numbered-edges : (t : Table) (u e m : ℕ) → Numbered (edgeRefusal t u e m)
+numbered-edges t u e zero = tt
+numbered-edges t u e (suc m) =
+    numbered-pick (wrongEnd t e) (Faulty 5 e) _ (omega arith)
+    (numbered-pick (wrongOrder t e) (Faulty 6 e) _ (omega arith)
+    (numbered-pick (wrongMark t u e) (Faulty 7 e) _ (omega arith) (numbered-edges t u (suc e) m)))
+
+numbered : (t : Table) (k : ℕ) → Numbered (refusal t (Buchi k) [])
+numbered t k =
+    numbered-pick (wrongStates t) (Faulty 1 0) _ (omega arith)
+    (numbered-pick (wrongEdges t) (Faulty 2 0) _ (omega arith)
+    (numbered-pick (wrongStart t) (Faulty 3 0) _ (omega arith)
+    (numbered-pick (wrongCondition (Buchi k) []) (Faulty 4 0) _ (omega arith) (numbered-edges t k 0 (t .edges)))))
+
+-- ---- what the number 0 says of the input and of the answer
+
+pub record Granted (t : Table) (k a b c : ℕ) (r : Translation) : Type 0 where
   pub sound : refusal t (Buchi k) [] ≡ Sound
   pub few : t .states * levels k ≤ mostStates
   pub few-edges : t .edges * levels k ≤ mostEdges
   pub first-room : t .edges * levels k ≤ a
   pub second-room : t .edges * levels k ≤ b
   pub third-room : t .edges * levels k ≤ c
-  pub state-count : states ≡ t .states * levels k
-  pub count : edges ≡ t .edges * levels k
-  pub begins : start ≡ number k (t .start) 0
+  pub made : r ≡ Made (t .states * levels k) (t .edges * levels k) (number k (t .start) 0)
 
-module _ (t : Table) (k a b c states edges start : ℕ) (made : Made states edges start ≡ answer t k a b c) where
+module _ (t : Table) (k a b c : ℕ) (r : Translation) (answered : r ≡ answer t k a b c) (none : numberOf r ≡ 0) where
+  -- an answer with another number is none of these
+  other : {C : Type 0} (q : Translation) → q ≡ answer t k a b c → 0 < numberOf q → C
+  other q e l = absurd (omega (arith, ap numberOf (answered ∙ sym e)))
+
   by-room : refusal t (Buchi k) [] ≡ Sound → large (t .states * levels k) (t .edges * levels k) ≡ false
-      → (s : Bool) → short (t .edges * levels k) a b c ≡ s → Granted t k a b c states edges start
-  by-room q r true s = absurd (let z : _≡_ {A = ℕ} 0 1 = cc (answer-short t k a b c q r s) in omega arith)
-  by-room q r false s =
-      let counts = not-either (ltb mostStates (t .states * levels k)) _ r in
+      → (s : Bool) → short (t .edges * levels k) a b c ≡ s → Granted t k a b c r
+  by-room q e true s = other (Refused 11 0) (answer-short t k a b c q e s) (omega arith)
+  by-room q e false s =
+      let counts = not-either (ltb mostStates (t .states * levels k)) _ e in
       let one = not-either (ltb a (t .edges * levels k)) _ s in
       let two = not-either (ltb b (t .edges * levels k)) _ (one .1) in
       record {
@@ -95,18 +121,16 @@ module _ (t : Table) (k a b c states edges start : ℕ) (made : Made states edge
         first-room = ltb-false a (t .edges * levels k) (one .0);
         second-room = ltb-false b (t .edges * levels k) (two .0);
         third-room = ltb-false c (t .edges * levels k) (two .1);
-        state-count = cc (answer-made t k a b c q r s);
-        count = cc (answer-made t k a b c q r s);
-        begins = cc (answer-made t k a b c q r s);
+        made = answered ∙ sym (answer-made t k a b c q e s);
       }
 
-  by-size : refusal t (Buchi k) [] ≡ Sound → (l : Bool) → large (t .states * levels k) (t .edges * levels k) ≡ l → Granted t k a b c states edges start
-  by-size q true r = absurd (let z : _≡_ {A = ℕ} 0 1 = cc (answer-large t k a b c q r) in omega arith)
-  by-size q false r = by-room q r (short (t .edges * levels k) a b c) refl
+  by-size : refusal t (Buchi k) [] ≡ Sound → (l : Bool) → large (t .states * levels k) (t .edges * levels k) ≡ l → Granted t k a b c r
+  by-size q true e = other (Refused 10 0) (answer-large t k a b c q e) (omega arith)
+  by-size q false e = by-room q e (short (t .edges * levels k) a b c) refl
 
-  by-finding : (f : Finding) → refusal t (Buchi k) [] ≡ f → Granted t k a b c states edges start
-  by-finding (Faulty number place) q = absurd (let z : _≡_ {A = ℕ} 0 1 = cc (answer-faulty t k a b c number place q) in omega arith)
+  by-finding : (f : Finding) → refusal t (Buchi k) [] ≡ f → Granted t k a b c r
+  by-finding (Faulty number place) q = other (Refused number place) (answer-faulty t k a b c number place q) (subst Numbered q (numbered t k))
   by-finding Sound q = by-size q (large (t .states * levels k) (t .edges * levels k)) refl
 
-  pub granted : Granted t k a b c states edges start
+  pub granted : Granted t k a b c r
   granted = by-finding (refusal t (Buchi k) []) refl

@@ -1,17 +1,15 @@
 -- The laws of climbs, over the level and the number of marks: no number of bits is named but by a variable. Assumes nothing.
-use mathlib.Core.Path.{_≡_, refl, sym, ap, _∙_, subst}
-use mathlib.Core.Bool.{Bool, true, false}
-use Prim.Native.Nat.{ℕ, zero, suc, _+_, _-_, _/_, _%_, _^_, _≤_, _<_, min, max}
+use mathlib.Core.Path.{_≡_, ap, _∙_, subst}
+use Prim.Native.Nat.{ℕ, zero, suc, _+_, _-_, _/_, _%_, _^_, _≤_, _<_, min}
 use native.Mathlib.Nat.{pow-suc}
 use native.Mathlib.Numerals.{add-one}
 use native.Mathlib.Omega.{arith}
 use lib.Count.{trailingZeros, under}
-use lib.Dec.{ltb, eqb}
 use lib.Pow.{shr-shr}
 use borrow.Author.Tests.{lt-ltb, le-ltb, eq-eqb, ne-eqb}
 use Rattle.marks.specs.Mark.{has}
 use Rattle.marks.proofs.Cases.{same, below}
-use Rattle.one_mark.specs.Climb.{levels, bears, choose, climb, reached, landing, bearing}
+use Rattle.one_mark.specs.Climb.{levels, climb, reached, landing, bearing}
 
 -- ---- one step of a climb
 

@@ -2,7 +2,7 @@
 -- Assumes nothing.
 use mathlib.Core.Path.{_≡_, refl, sym, ap, _∙_, subst}
 use mathlib.Core.List.{List, [], _∷_, _++_, map}
-use Prim.Native.Nat.{ℕ, suc, _+_, _*_, _≤_, _<_}
+use Prim.Native.Nat.{ℕ, suc, _+_, _<_}
 use native.Mathlib.Omega.{arith}
 use lib.ListN.{length, getD}
 use Rattle.table.specs.Table.{Table, Step, Walk, borne}
@@ -13,7 +13,7 @@ use Rattle.one_mark.specs.Translated.{translated, liftedFrom, liftedTo}
 use Rattle.one_mark.specs.Over.{Over, OneOver, OneUnder}
 use Rattle.one_mark.proofs.Climbs.{landing-below}
 use Rattle.one_mark.proofs.Numbers.{number-same}
-use Rattle.one_mark.proofs.Position.{Stands, stands, place-most, level-place, under-place, cell-place, cell-at}
+use Rattle.one_mark.proofs.Position.{stands, place-most, under-place, cell-place, cell-at}
 
 -- the level after the edges es, from level j
 abbrev pub levelAfter : Table → ℕ → ℕ → List ℕ → ℕ

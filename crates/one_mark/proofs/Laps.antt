@@ -1,16 +1,16 @@
 -- Climbs along a walk: how often the top is passed, and which marks the walk then bears. Assumes nothing.
-use mathlib.Core.Path.{_≡_, refl, sym, ap, _∙_, subst}
-use mathlib.Core.Logic.{_↔_, inl, inr, ⊎-elim}
+use mathlib.Core.Path.{_≡_, refl, sym, _∙_, subst}
+use mathlib.Core.Logic.{inl, inr, ⊎-elim}
 use mathlib.Core.List.{List, [], _∷_}
-use Prim.Native.Nat.{ℕ, zero, suc, _+_, _≤_, _<_}
+use Prim.Native.Nat.{ℕ, _+_, _≤_, _<_}
 use native.Mathlib.Omega.{arith}
-use lib.ListN.{length, getD}
+use lib.ListN.{length}
 use Rattle.marks.specs.Mark.{has}
 use Rattle.marks.proofs.Cases.{same, below}
 use Rattle.marks.proofs.Laws.{has-none, has-union}
 use Rattle.table.specs.Table.{Table, Walk, borne, marksOf}
 use Rattle.table.specs.Refusal.{Proper}
-use Rattle.one_mark.specs.Climb.{levels, reached, landing, bearing}
+use Rattle.one_mark.specs.Climb.{levels, landing, bearing}
 use Rattle.one_mark.specs.Place.{place}
 use Rattle.one_mark.specs.Translated.{translated, liftedMarks}
 use Rattle.one_mark.proofs.Climbs.{lands, landing-below, reached-low, reached-passed, reached-moves}

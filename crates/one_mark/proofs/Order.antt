@@ -1,8 +1,8 @@
 -- The rows of a table and the order of the translated edges. Assumes nothing.
-use mathlib.Core.Path.{_≡_, refl, sym, ap, _∙_, subst}
+use mathlib.Core.Path.{_≡_, refl, ap, _∙_}
 use mathlib.Core.Bool.{Bool}
 use mathlib.Core.List.{List, [], _∷_}
-use Prim.Native.Nat.{ℕ, zero, suc, _+_, _-_, _*_, _≤_, _<_}
+use Prim.Native.Nat.{ℕ, zero, suc, _+_, _*_, _≤_, _<_}
 use native.Mathlib.Nat.{zero-add}
 use native.Mathlib.Omega.{arith}
 use lib.ListN.{length, getD}
@@ -13,7 +13,7 @@ use Rattle.table.specs.Refusal.{Proper}
 use Rattle.table.specs.Row.{oneMore, Row}
 use Rattle.table.proofs.Rows.{Sorted, sorted-far, Begins}
 use Rattle.one_mark.specs.Climb.{levels}
-use Rattle.one_mark.specs.Place.{front, rowStart, rowLength, cells, each, levelCells, rowCells, inOrder}
+use Rattle.one_mark.specs.Place.{front, rowStart, rowLength, each, levelCells, rowCells, inOrder}
 use Rattle.one_mark.proofs.Lists.{length-cells, cells-at, each-even, each-length, each-at}
 use Rattle.one_mark.proofs.Numbers.{level-fits}
 

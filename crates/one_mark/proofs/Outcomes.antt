@@ -1,6 +1,6 @@
 -- What is left in the outputs, and how the writing of a table follows from its answer. Assumes nothing.
 use mathlib.Core.Path.{_≡_, refl, sym, ap, _∙_}
-use mathlib.Core.List.{List, [], _++_}
+use mathlib.Core.List.{List, _++_}
 use Prim.Native.Nat.{ℕ, _+_, _-_, _*_, _≤_}
 use native.Mathlib.Nat.{zero-add}
 use native.Mathlib.Omega.{arith}
@@ -13,9 +13,9 @@ use Rattle.one_mark.specs.declared.Translation.the-variants.{Made, Refus
 use Rattle.one_mark.specs.Climb.{levels}
 use Rattle.one_mark.specs.Place.{inOrder}
 use Rattle.one_mark.specs.Translated.{translated, liftedFrom, liftedTo, liftedMarks}
-use Rattle.one_mark.specs.Outcome.{Outcome, Ready, Filled, answer}
+use Rattle.one_mark.specs.Outcome.{Outcome, Ready, Filled, answer, edgesOf}
 use Rattle.one_mark.specs.Writing.{Room, StatesWritten}
-use Rattle.one_mark.proofs.Answers.{Granted, granted, fit, ladder}
+use Rattle.one_mark.proofs.Answers.{granted, fit, ladder}
 use Rattle.one_mark.proofs.Lists.{sets-append, sets-whole}
 use Rattle.one_mark.proofs.Order.{order-length, rows-end}
 
@@ -35,11 +35,11 @@ module _ (t : Table) (proper : Proper t) (k : ℕ) where
   pub whole-length : (f : ℕ → ℕ → ℕ) → length (inOrder t k f) ≡ t .edges * levels k
   whole-length f = order-length t k f (t .states) ∙ rw (rows-end t proper)
 
-  pub filled : (edges : ℕ) (l a b l' a' b' l'' a'' b'' : List ℕ) → edges ≡ t .edges * levels k → Room 0 edges l a b
+  pub filled : {l a b l' a' b' l'' a'' b'' : List ℕ} (edges : ℕ) → edges ≡ t .edges * levels k → Room 0 edges l a b
       → StatesWritten t k (t .states) l a b l' a' b'
       → l'' ≡ sets l' edges (replicate (length l' - edges) 0) → a'' ≡ sets a' edges (replicate (length a' - edges) 0)
       → b'' ≡ sets b' edges (replicate (length b' - edges) 0) → Filled t k l a b l'' a'' b''
-  filled edges l a b l' a' b' l'' a'' b'' e room written p q r =
+  filled {l} {a} {b} {l'} {a'} {b'} {l''} {a''} {b''} edges e room written p q r =
       record {
         from-filled = cleared l l' l'' (translated t k .from) edges (written .from-cells) (whole-length (liftedFrom t k) ∙ sym e) (omega (arith, room .for-from)) p;
         to-filled = cleared a a' a'' (translated t k .to) edges (written .to-cells) (whole-length (liftedTo t k) ∙ sym e) (omega (arith, room .for-to)) q;
@@ -53,10 +53,10 @@ pub outcome-refused : (t : Table) (k : ℕ) (l a b : List ℕ) (r : Translation)
 outcome-refused t k l a b r number place e q = record { answered = e; from-held = rw q; to-held = rw q; marks-held = rw q }
 
 -- (the start plays no part in the lists)
-pub outcome-made : (n start k : ℕ) (from to marks l a b : List ℕ) (states edges first : ℕ) (l' a' b' : List ℕ)
+pub outcome-made : (n start k : ℕ) (from to marks : List ℕ) {l a b l' a' b' : List ℕ} (states edges first : ℕ)
     → Made states edges first ≡ answer (lent n start from to marks) k (length l) (length a) (length b)
     → Filled (lent n 0 from to marks) k l a b l' a' b' → Outcome (lent n start from to marks) k l a b (Made states edges first) l' a' b'
-outcome-made n start k from to marks l a b states edges first l' a' b' e f =
+outcome-made n start k from to marks states edges first e f =
     record { answered = e; from-held = f .from-filled; to-held = f .to-filled; marks-held = f .marks-filled }
 
 -- a table that is to be made is ready to be written
@@ -64,7 +64,8 @@ pub ready : (n start k K : ℕ) (from to marks l a b : List ℕ) (states edges f
     → Made states edges first ≡ answer (lent n start from to marks) k (length l) (length a) (length b) → K ≡ levels k
     → Ready n k K edges from to marks l a b
 ready n start k K from to marks l a b states edges first made all =
-    let g = granted (lent n start from to marks) k (length l) (length a) (length b) states edges first made in
+    let g = granted (lent n start from to marks) k (length l) (length a) (length b) (Made states edges first) made refl in
+    let count : edges ≡ length from * levels k = ap edgesOf (g .made) in
     let p = fit n start k from to marks (g .sound) .proper in
     record {
       ladder = ladder n start k from to marks (g .sound) K all (g .few);
@@ -80,6 +81,6 @@ ready n start k K from to marks l a b states edges first made all =
         to-below = p .to-below;
         sorted = p .sorted;
       };
-      count = g .count ∙ rw all;
-      room = record { for-from = omega (arith, g .first-room, g .count); for-to = omega (arith, g .second-room, g .count); for-marks = omega (arith, g .third-room, g .count) };
+      count = count ∙ rw all;
+      room = record { for-from = omega (arith, g .first-room); for-to = omega (arith, g .second-room); for-marks = omega (arith, g .third-room) };
     }

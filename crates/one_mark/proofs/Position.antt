@@ -1,6 +1,6 @@
 -- The position rule (document 01: "The source edge under a translated edge follows from its position"): an edge at a level stands at `place`,
 -- the edge and the level at a position are `under` and `levelAt`, and every cell is what the definition gives for them. Assumes nothing.
-use mathlib.Core.Path.{_≡_, refl, sym, ap, _∙_, subst}
+use mathlib.Core.Path.{_≡_, sym, ap, _∙_, subst}
 use Prim.Native.Nat.{ℕ, suc, _+_, _-_, _*_, _/_, _%_, _≤_, _<_}
 use native.Mathlib.Nat.{div-lt-iff-lt-mul, le-div-iff-mul-le, div-add-mod', mod-lt, mul-le-mul-right}
 use native.Mathlib.Omega.{arith}

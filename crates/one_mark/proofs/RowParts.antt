@@ -1,5 +1,5 @@
 -- A row handed on as parts of the tables gives the row's cells of the definition, and rows are written one behind the other. Assumes nothing.
-use mathlib.Core.Path.{_≡_, refl, sym, ap, _∙_}
+use mathlib.Core.Path.{_≡_, sym, _∙_}
 use mathlib.Core.List.{List}
 use Prim.Native.Nat.{ℕ, suc, _+_, _-_, _*_, _≤_, _<_}
 use native.Mathlib.Nat.{zero-add}
@@ -14,7 +14,7 @@ use Rattle.table.proofs.Rows.{part-length, part-at, Begins, row-is, next-begins
 use Rattle.one_mark.specs.Climb.{levels, number, landing, bearing}
 use Rattle.one_mark.specs.Place.{rowStart, rowLength, cells, each, rowCells}
 use Rattle.one_mark.specs.Translated.{liftedFrom, liftedTo, liftedMarks}
-use Rattle.one_mark.specs.Writing.{Wrote, Room, RowAsked, RowWritten, StatesWritten, partFrom, partTo, partMarks}
+use Rattle.one_mark.specs.Writing.{Room, RowAsked, RowWritten, StatesWritten}
 use Rattle.one_mark.proofs.Lists.{cells-same, each-same}
 use Rattle.one_mark.proofs.Numbers.{rows-fit}
 use Rattle.one_mark.proofs.Order.{sorted, begins-front, order-length}

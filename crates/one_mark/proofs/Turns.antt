@@ -1,15 +1,15 @@
 -- Lassos and translated lassos: a translated accepted lasso lies over an accepted one, and over an accepted lasso some turns of the cycle close
 -- to an accepted translated one. Assumes nothing.
 use mathlib.Core.Path.{_≡_, refl, sym, ap, _∙_, subst}
-use mathlib.Core.List.{List, [], _∷_, _++_, map, append-assoc, Memᴰ·append-left}
-use Prim.Native.Nat.{ℕ, zero, suc, _+_, _-_, _≤_, _<_}
+use mathlib.Core.List.{List, [], _++_, map, append-assoc, Memᴰ·append-left}
+use Prim.Native.Nat.{ℕ, zero, suc, _+_, _-_, _<_}
 use native.Mathlib.Nat.{zero-add, suc-add}
 use native.Mathlib.Omega.{arith}
 use lib.ListN.{length, length-append}
 use Rattle.marks.specs.Mark.{has}
 use Rattle.marks.proofs.Cases.{below}
 use Rattle.table.specs.declared.Acceptance.the-variants.{Buchi}
-use Rattle.table.specs.Table.{Table, Walk, Lasso, marksOf}
+use Rattle.table.specs.Table.{Table, Walk, marksOf}
 use Rattle.table.specs.Refusal.{Proper}
 use Rattle.table.specs.Condition.{Accepted}
 use Rattle.table.proofs.Walks.{walk-append, marks-grow}

@@ -24,7 +24,7 @@ abbrev pub climb : ℕ → ℕ → ℕ → ℕ
 climb x j zero = j
 climb x j (suc left) = choose (bears x j) (climb x (suc j) left) j
 
--- the level that it reaches, k at most
+-- the level that it reaches, k at most (`Climbs.reached-high`, in proofs/)
 unfoldable pub reached : ℕ → ℕ → ℕ → ℕ
 reached k x j = climb x j (k - j)
 

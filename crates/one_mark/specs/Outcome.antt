@@ -67,7 +67,8 @@ pub record Filled (t : Table) (k : ℕ) (leaves arrives bears leaves' arrives' b
   pub to-filled : arrives' ≡ translated t k .to ++ replicate (length arrives - length (translated t k .to)) 0
   pub marks-filled : bears' ≡ translated t k .marks ++ replicate (length bears - length (translated t k .marks)) 0
 
--- ---- document 01's number, place, counts and new start for each answer
+-- ---- document 01's number, place, counts and new start for each answer. The number is 0 exactly if a table was made (`Faithful.outputs-hold` and
+-- `Faithful.refused-untouched`, in proofs/, go by it)
 
 abbrev pub numberOf : Translation → ℕ
 numberOf (Made states edges start) = 0

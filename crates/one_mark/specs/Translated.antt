@@ -1,5 +1,4 @@
 -- The translated table (document 01, "One-mark translation"). It is read as Büchi 1. Assumes nothing.
-use mathlib.Core.List.{List}
 use Prim.Native.Nat.{ℕ, _*_}
 use lib.ListN.{getD}
 use Rattle.table.specs.Table.{Table, borne}

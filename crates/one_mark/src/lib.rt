@@ -11,8 +11,7 @@ use table::Finding;
 use table::MOST_EDGES;
 use table::MOST_STATES;
 ghost use mathlib.Core.Path.{_≡_};
-ghost use mathlib.Core.List.{List};
-ghost use Prim.Native.Nat.{ℕ, _-_, _*_, _≤_};
+ghost use Prim.Native.Nat.{_-_, _≤_};
 ghost use lib.ListN.{length, replicate};
 ghost use lib.Seq.{sets};
 ghost use Rattle.table.specs.Table.{lent};
@@ -86,9 +85,10 @@ fn foresee(
         levels,
     };
     let first = number_of(start, 0, shape);
+    let count = edges as u32;
     Translation::Made {
         states,
-        edges: edges as u32,
+        edges: count,
         start: first,
     }
 }

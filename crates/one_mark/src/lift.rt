@@ -2,8 +2,7 @@
 // Relies on `table` for the rows. What the three outputs hold is in specs/Translated.antt, what each function asks in specs/Writing.antt.
 use table::row::run;
 ghost use mathlib.Core.Path.{_≡_};
-ghost use mathlib.Core.List.{List};
-ghost use Prim.Native.Nat.{ℕ, _+_, _*_, _≤_, _<_};
+ghost use Prim.Native.Nat.{_+_, _*_, _≤_, _<_};
 ghost use lib.ListN.{length};
 ghost use Rattle.marks.specs.Mark.{width};
 ghost use Rattle.table.specs.Table.{lent};

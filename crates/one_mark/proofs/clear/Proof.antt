@@ -1,6 +1,7 @@
-use mathlib.Core.Path.{_≡_, refl, ap, _∙_}
+-- `clear` meets its contract: each turn stores one 0 more (`sets-more`). The measure is the cells left. Assumes nothing.
+use mathlib.Core.Path.{_≡_, _∙_}
 use Prim.Native.Nat.{_-_, _≤_}
-use lib.ListN.{length, length-set, replicate}
+use lib.ListN.{length, length-set}
 use lib.Seq.{sets}
 use Rattle.one_mark.specs.Place.{cells}
 use Rattle.one_mark.proofs.Lists.{sets-more, cells-zero}
@@ -8,8 +9,6 @@ use borrow.Author.Needs.{needs}
 use native.Mathlib.Omega.{arith}
 use Rattle.one_mark.proofs.clear.Statement.{statement}
 use Rattle.one_mark.proofs.clear.Tie as tie
-use Rattle.one_mark.proofs.clear.Reads as reads
-use Rattle.one_mark.proofs.clear.Lts as lts
 
 -- the first i cells from `at` on are 0
 abbrev Inv-loop : tie.InvT-loop
@@ -18,45 +17,35 @@ Inv-loop out₀ at left i₀ out i = (i ≤ left) × (left ≡ length out₀ - a
 abbrev μ-loop : tie.MeasureT-loop
 μ-loop out₀ at left i₀ out i = left - i
 
--- src/lib.rt:101:16
 sub-left : tie.Need-sub-left Inv-loop μ-loop
 sub-left c = search needs
 
--- src/lib.rt:103:5
 loop-holds : tie.Need-loop-holds Inv-loop μ-loop
 loop-holds c = search needs
 
--- src/lib.rt:104:13
 add-out : tie.Need-add-out Inv-loop μ-loop
 add-out c = search needs
 
--- src/lib.rt:104:9
 mul-out : tie.Need-mul-out Inv-loop μ-loop
 mul-out c = search needs
 
--- src/lib.rt:104:9
 slice-write-out : tie.Need-slice-write-out Inv-loop μ-loop
 slice-write-out c = search needs
 
--- src/lib.rt:105:9
 add-i : tie.Need-add-i Inv-loop μ-loop
 add-i c = search needs
 
--- src/lib.rt:103:5
 loop-less : tie.Need-loop-less Inv-loop μ-loop
 loop-less c = search needs
 
--- src/lib.rt:103:5
 loop-again : tie.Need-loop-again Inv-loop μ-loop
 loop-again c =
     let loop = c .before .loop in
     (search needs, search needs, rw (loop .inv .2) (sets-more _ _ (λ e. 0) (loop .i)), simp length-set (loop .inv .3))
 
--- src/lib.rt:97:1
 same-length : tie.Need-same-length Inv-loop μ-loop
 same-length c = search needs
 
--- src/lib.rt:97:1
 returns : tie.Need-returns Inv-loop μ-loop
 returns c =
     let loop = c .before .loop in

@@ -1,8 +1,8 @@
 -- `foresee` meets its contract: its tests are those of `answer` in their order, and each answer follows from the tests that lead to it
 -- (proofs/Answers.antt). Assumes nothing.
-use mathlib.Core.Path.{_≡_, sym, ap, _∙_}
+use mathlib.Core.Path.{_≡_, sym, _∙_}
 use mathlib.Core.List.{[]}
-use Prim.Native.Nat.{_*_, _≤_, _<_}
+use Prim.Native.Nat.{_*_, _≤_}
 use native.Mathlib.Omega.{arith}
 use lib.ListN.{length}
 use borrow.Author.Needs.{needs}
@@ -11,7 +11,6 @@ use Rattle.table.specs.declared.Finding.the-variants.{Sound}
 use Rattle.table.specs.Table.{Table, lent}
 use Rattle.table.specs.Refusal.{refusal, mostStates, mostEdges}
 use Rattle.marks.specs.Mark.{width}
-use Rattle.table.proofs.Sound.{Fit, sound-fit, used-few}
 use Rattle.one_mark.specs.Climb.{levels}
 use Rattle.one_mark.proofs.Answers.{answer-faulty, answer-large, answer-short, answer-made, not-large, ladder, counts-fit, start-below}
 use Rattle.one_mark.specs.Outcome.{large, short}
@@ -28,6 +27,7 @@ sound : (c : tie.After-level-count) →
     refusal (table entry) (Buchi (entry .args .k)) [] ≡ Sound
 sound c = sym (c .before .before .before .check .ensures) ∙ c .before .enum-told .given .1
 
+-- its counts fit a word
 fitting : (c : tie.After-level-count) →
     let entry = c .before .before .before .before .before .before .before in
     (entry .args .n * c .level-count .result ≤ mostStates * width) × (length (entry .args .from .now) * c .level-count .result ≤ mostEdges * width)
@@ -35,25 +35,24 @@ fitting c =
     let a = c .before .before .before .before .before .before .before .args in
     counts-fit (a .n) (a .start) (a .k) (a .from .now) (a .to .now) (a .marks .now) (sound c) (c .level-count .result) (c .level-count .ensures)
 
+-- row 10 was tested
 large-told : (c : tie.After-too-large) →
     let entry = c .before .before .before .before .before .before .before .before in
     c .too-large .result ≡ large (entry .args .n * levels (entry .args .k)) (length (entry .args .from .now) * levels (entry .args .k))
 large-told c = c .too-large .ensures ∙ rw (c .before .level-count .ensures)
 
+-- row 11 was tested
 short-told : (c : tie.After-too-short) →
     let a = c .before .before .before .before .before .before .before .before .before .before .args in
     c .too-short .result ≡ short (length (a .from .now) * levels (a .k)) (a .a) (a .b) (a .c)
 short-told c = c .too-short .ensures ∙ rw (c .before .before .before .level-count .ensures)
 
--- src/lib.rt:64:9
 check-requires : tie.Need-check-requires
 check-requires c κs = search needs
 
--- src/lib.rt:65:31
 enum-known-finding : tie.Need-enum-known-finding
 enum-known-finding c = search needs
 
--- src/lib.rt:66:9
 returns : tie.Need-returns
 returns c =
     let entry = c .before .before .before .before .before .before .before in
@@ -62,44 +61,35 @@ returns c =
 enum-told : tie.Need-enum-told
 enum-told c = search needs
 
--- src/lib.rt:68:9
 level-count-requires : tie.Need-level-count-requires
 level-count-requires c κs = search needs
 
--- src/lib.rt:69:18
 mul-states : tie.Need-mul-states
 mul-states c = omega (arith, fitting c .0)
 
--- src/lib.rt:70:31
 cast-edges : tie.Need-cast-edges
 cast-edges c = search needs
 
--- src/lib.rt:70:17
 mul-edges : tie.Need-mul-edges
 mul-edges c = omega (arith, fitting c .1)
 
--- src/lib.rt:71:8
 too-large-requires : tie.Need-too-large-requires
 too-large-requires c κs = search needs
 
--- src/lib.rt:72:9
 returns-2 : tie.Need-returns-2
 returns-2 c =
     let entry = c .before .before .before .before .before .before .before .before .before in
     answer-large (table entry) (entry .args .k) (entry .args .a) (entry .args .b) (entry .args .c) (sound (c .before .before)) (sym (large-told (c .before)) ∙ c .if1 .taken)
 
--- src/lib.rt:77:8
 too-short-requires : tie.Need-too-short-requires
 too-short-requires c κs = search needs
 
--- src/lib.rt:78:9
 returns-3 : tie.Need-returns-3
 returns-3 c =
     let entry = c .before .before .before .before .before .before .before .before .before .before .before in
     answer-short (table entry) (entry .args .k) (entry .args .a) (entry .args .b) (entry .args .c) (sound (c .before .before .before .before))
     (sym (large-told (c .before .before .before)) ∙ c .before .before .if1 .left) (sym (short-told (c .before)) ∙ c .if2 .taken)
 
--- src/lib.rt:88:9
 number-of-requires : tie.Need-number-of-requires
 number-of-requires c κs =
     let a = c .before .before .before .before .before .before .before .before .before .before .before .args in
@@ -110,11 +100,9 @@ number-of-requires c κs =
       (start-below (a .n) (a .start) (a .k) (a .from .now) (a .to .now) (a .marks .now) s, omega arith),
     )
 
--- src/lib.rt:91:16
-cast-t24 : tie.Need-cast-t24
-cast-t24 c = omega (arith, fitting (c .before .before .before .before .before) .1)
+cast-count : tie.Need-cast-count
+cast-count c = omega (arith, fitting (c .before .before .before .before .before) .1)
 
--- src/lib.rt:51:1
 returns-4 : tie.Need-returns-4
 returns-4 c =
     let entry = c .before .before .before .before .before .before .before .before .before .before .before .before in
@@ -140,5 +128,5 @@ foresee-spec =
     too-short-requires
     returns-3
     number-of-requires
-    cast-t24
+    cast-count
     returns-4)

@@ -1,13 +1,13 @@
 -- `climb` meets its contract: the flipped word's zeros at the end count the marks in a row from the level on (`climb-ones`). Assumes nothing.
-use mathlib.Core.Path.{_≡_, sym, ap}
-use Prim.Native.Nat.{ℕ, _+_, _-_, _/_, _^_, _<_, min}
+use mathlib.Core.Path.{_≡_}
+use Prim.Native.Nat.{_+_, _-_, _/_, _^_, min}
 use native.Mathlib.Nat.{lt-of-le-of-lt}
 use native.Mathlib.Omega.{arith}
 use lib.Count.{trailingZeros}
 use lib.Pow.{shr-le}
 use borrow.Author.Needs.{needs}
 use Rattle.marks.specs.Mark.{width}
-use Rattle.one_mark.specs.Climb.{climb, reached}
+use Rattle.one_mark.specs.Climb.{reached}
 use Rattle.one_mark.proofs.Climbs.{reached-top, climb-ones}
 use Rattle.one_mark.proofs.lift.climb.Statement.{statement}
 use Rattle.one_mark.proofs.lift.climb.Tie as tie

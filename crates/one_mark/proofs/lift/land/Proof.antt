@@ -1,6 +1,4 @@
 -- `land` meets its contract: it asks the climb for the level reached and goes by whether that is the top (`lands`). Assumes nothing.
-use mathlib.Core.Path.{_≡_, _∙_, sym}
-use native.Mathlib.Omega.{arith}
 use borrow.Author.Needs.{needs}
 use Rattle.one_mark.proofs.Climbs.{landed-below, landed-top}
 use Rattle.one_mark.proofs.lift.land.Statement.{statement}

@@ -18,9 +18,9 @@ abbrev Inv-loop : tie.InvT-loop
 Inv-loop state level shape to marks at leaves₀ arrives₀ bears₀ k leaving i₀ leaves arrives bears i =
     (i ≤ length to)
     × Wrote at (cells (λ e. number (shape .k) state level) 0 i)
-        (cells (λ e. number (shape .k) (getD to e 0) (landing (shape .k) (getD marks e 0) level)) 0 i)
-        (cells (λ e. bearing (shape .k) (getD marks e 0) level) 0 i)
-        leaves₀ arrives₀ bears₀ leaves arrives bears
+    (cells (λ e. number (shape .k) (getD to e 0) (landing (shape .k) (getD marks e 0) level)) 0 i)
+    (cells (λ e. bearing (shape .k) (getD marks e 0) level) 0 i)
+    leaves₀ arrives₀ bears₀ leaves arrives bears
     × Kept leaves₀ arrives₀ bears₀ leaves arrives bears
 
 abbrev μ-loop : tie.MeasureT-loop
@@ -51,10 +51,13 @@ shared-slice-read-number-of c = search needs
 number-of-requires-2 : tie.Need-number-of-requires-2 Inv-loop μ-loop
 number-of-requires-2 c κs =
     let entry = c .before .before .before .before .before .before .before .before .before .before .before in
-    let i = c .before .before .before .before .loop .i in
-    (entry .pre .0,
-      (entry .pre .1 .1 .0 .ends i (c .before .before .before .loop-test .taken),
-        omega (arith, c .before .land .ensures .0, landing-below (entry .args .shape .k) (getD (entry .args .marks .now) i 0) (entry .args .level))))
+    let i = c .before .before .before .before .loop .i in (
+      entry .pre .0,
+      (
+        entry .pre .1 .1 .0 .ends i (c .before .before .before .loop-test .taken),
+        omega (arith, c .before .land .ensures .0, landing-below (entry .args .shape .k) (getD (entry .args .marks .now) i 0) (entry .args .level)),
+      ),
+    )
 
 add-place : tie.Need-add-place Inv-loop μ-loop
 add-place c = search needs

@@ -1,5 +1,5 @@
 -- A row handed on as parts of the tables gives the row's cells of the definition, and rows are written one behind the other. Assumes nothing.
-use mathlib.Core.Path.{_≡_, sym, _∙_}
+use mathlib.Core.Path.{_≡_, refl, sym, _∙_}
 use mathlib.Core.List.{List}
 use Prim.Native.Nat.{ℕ, suc, _+_, _-_, _*_, _≤_, _<_}
 use native.Mathlib.Nat.{zero-add}
@@ -7,17 +7,18 @@ use native.Mathlib.Numerals.{add-one}
 use native.Mathlib.Omega.{arith}
 use lib.ListN.{length, getD, drop, length-drop}
 use lib.Seq.{take-all}
+use Rattle.marks.proofs.Cases.{same}
 use Rattle.table.specs.Table.{Table}
 use Rattle.table.specs.Refusal.{Proper}
 use Rattle.table.specs.Row.{part, run, Row}
-use Rattle.table.proofs.Rows.{part-length, part-at, Begins, row-is, next-begins}
+use Rattle.table.proofs.Rows.{part-length, part-at, Begins, first-begins, row-is, next-begins}
 use Rattle.one_mark.specs.Climb.{levels, number, landing, bearing}
 use Rattle.one_mark.specs.Place.{rowStart, rowLength, cells, each, rowCells}
 use Rattle.one_mark.specs.Translated.{liftedFrom, liftedTo, liftedMarks}
 use Rattle.one_mark.specs.Writing.{Room, RowAsked, RowWritten, StatesWritten}
 use Rattle.one_mark.proofs.Lists.{cells-same, each-same}
 use Rattle.one_mark.proofs.Numbers.{rows-fit}
-use Rattle.one_mark.proofs.Order.{sorted, begins-front, order-length}
+use Rattle.one_mark.proofs.Order.{sorted, begins-front, order-length, order-same}
 use Rattle.one_mark.proofs.Wrote.{Kept, wrote-run}
 
 -- in the table t the row of s begins at edge a and is w edges long
@@ -36,6 +37,10 @@ module _ {t : Table} {s a w : ℕ} (at : RowAt t s a w) where
 
   pub row-ends : a + w ≤ t .edges
   row-ends = omega (arith, row .ends, proper .from-length)
+
+  -- the row of an edge's state is not empty
+  pub row-some : a < length (t .from) → getD (t .from) a 0 ≡ s → 0 < w
+  row-some l e = same w 0 (λ none. absurd (omega (arith, row .after a (omega arith) l))) (λ some. omega arith)
 
   pub next : Begins (t .from) (s + 1) (a + w)
   next = rw add-one (next-begins (t .from) s a (a + w) row)
@@ -114,3 +119,19 @@ module _ {t : Table} {s a w : ℕ} (at : RowAt t s a w) where
       (omega (arith, order-length t k (liftedFrom t k) s))
       (omega (arith, order-length t k (liftedTo t k) s))
       (omega (arith, order-length t k (liftedMarks t k) s))
+
+-- states without edges need no writing
+pub states-same : {l b c l' b' c' : List ℕ} (t : Table) → Proper t → (k s s' a : ℕ) → Begins (t .from) s a → Begins (t .from) s' a
+    → StatesWritten t k s l b c l' b' c' → StatesWritten t k s' l b c l' b' c'
+states-same t proper k s s' a p q written =
+    let alike : rowStart t s ≡ rowStart t s' = begins-front (t .from) s a (sorted t proper) p ∙ sym (begins-front (t .from) s' a (sorted t proper) q) in
+    record {
+      from-cells = rw (order-same t k (liftedFrom t k) s s' alike) at (written .from-cells);
+      to-cells = rw (order-same t k (liftedTo t k) s s' alike) at (written .to-cells);
+      marks-cells = rw (order-same t k (liftedMarks t k) s s' alike) at (written .marks-cells);
+    }
+
+-- before the first edge nothing is written
+pub states-none : {l b c : List ℕ} (t : Table) → Proper t → (k s : ℕ) → Begins (t .from) s 0 → StatesWritten t k s l b c l b c
+states-none t proper k s begins =
+    states-same t proper k 0 s 0 (first-begins (t .from)) begins (record { from-cells = refl; to-cells = refl; marks-cells = refl })

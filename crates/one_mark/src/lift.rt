@@ -142,7 +142,7 @@ fn lift_row(
     place
 }
 
-// Writes all translated edges, row by row.
+// Writes all translated edges, row by row: a state without edges takes no time.
 pub(crate) fn lift_table(
     shape: Shape,
     from: &[u32],
@@ -157,23 +157,23 @@ pub(crate) fn lift_table(
     requires { ⌜ Room 0 (length (now from) * shape .levels) (now leaves) (now arrives) (now bears) ⌝ }
     ensures { λ _. ⌜ StatesWritten (lent (shape .states) 0 (now (from .entry)) (now (to .entry)) (now (marks .entry))) (shape .k) (shape .states) (now (leaves .entry)) (now (arrives .entry)) (now (bears .entry)) (now (leaves .exit)) (now (arrives .exit)) (now (bears .exit)) ⌝ }
 {
-    let states = shape.states;
     let mut first = 0;
     let mut place = 0;
-    let mut state = 0;
-    while state < states {
+    while first < from.len() {
+        let state = from[first];
         let end = first + run(&from[first..], state);
+        let row_to = &to[first..end];
+        let row_marks = &marks[first..end];
         place = lift_row(
             state,
             shape,
-            &to[first..end],
-            &marks[first..end],
+            row_to,
+            row_marks,
             place,
             leaves,
             arrives,
             bears,
         );
         first = end;
-        state += 1;
     }
 }

@@ -29,11 +29,12 @@ abbrev pub first : Bool → Translation → Translation → Translation
 first true a b = a
 first false a b = b
 
--- the first cause of rows 1 to 7, with k read as a Büchi count; then 10; then 11; then both counts and the new start
+-- a refusal of rows 1 to 7 comes first
 abbrev pub unless : Finding → Translation → Translation
 unless Sound r = r
 unless (Faulty number place) r = Refused number place
 
+-- the first cause of rows 1 to 7, with k read as a Büchi count; then 10; then 11; then both counts and the new start
 abbrev pub answer : Table → ℕ → ℕ → ℕ → ℕ → Translation
 answer t k a b c =
     unless (refusal t (Buchi k) [])

@@ -15,7 +15,7 @@ abbrev pub front : ℕ → List ℕ → ℕ
 front s [] = 0
 front s (x ∷ xs) = oneMore (ltb x s) (front s xs)
 
--- the row of s begins at this edge, and ends before the one at which the next row begins (`Rows.table-row`, in proofs/)
+-- the row of s begins at this edge, and ends before the one at which the next row begins (`Order.table-row`, in proofs/)
 abbrev pub rowStart : Table → ℕ → ℕ
 rowStart t s = front s (t .from)
 
@@ -34,13 +34,15 @@ abbrev pub each : (ℕ → List ℕ) → ℕ → ℕ → List ℕ
 each f a zero = []
 each f a (suc n) = f a ++ each f (suc a) n
 
--- for every state in turn, for every level in turn, for every edge of the state's row in turn: what f gives for that level and edge
+-- for every edge of the row of s in turn, taken at level j: what f gives for that level and edge
 abbrev pub levelCells : Table → (ℕ → ℕ → ℕ) → ℕ → ℕ → List ℕ
 levelCells t f s j = cells (f j) (rowStart t s) (rowLength t s)
 
+-- so for every level in turn
 abbrev pub rowCells : Table → ℕ → (ℕ → ℕ → ℕ) → ℕ → List ℕ
 rowCells t k f s = each (levelCells t f s) 0 (levels k)
 
+-- and so for every state in turn
 abbrev pub inOrder : Table → ℕ → (ℕ → ℕ → ℕ) → List ℕ
 inOrder t k f = each (rowCells t k f) 0 (t .states)
 

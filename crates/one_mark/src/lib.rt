@@ -6,6 +6,7 @@ use lift::Shape;
 use lift::level_count;
 use lift::lift_table;
 use lift::number_of;
+use marks::Marks;
 use table::Acceptance;
 use table::Finding;
 use table::MOST_EDGES;
@@ -52,7 +53,7 @@ fn foresee(
     start: u32,
     from: &[u32],
     to: &[u32],
-    marks: &[u32],
+    marks: &[Marks],
     k: u32,
     a: usize,
     b: usize,
@@ -111,11 +112,11 @@ fn fill(
     shape: Shape,
     from: &[u32],
     to: &[u32],
-    marks: &[u32],
+    marks: &[Marks],
     edges: usize,
     leaves: &mut [u32],
     arrives: &mut [u32],
-    bears: &mut [u32],
+    bears: &mut [Marks],
 )
     requires { ⌜ Ready (shape .states) (shape .k) (shape .levels) edges (now from) (now to) (now marks) (now leaves) (now arrives) (now bears) ⌝ }
     ensures { λ _. ⌜ Filled (lent (shape .states) 0 (now (from .entry)) (now (to .entry)) (now (marks .entry))) (shape .k) (now (leaves .entry)) (now (arrives .entry)) (now (bears .entry)) (now (leaves .exit)) (now (arrives .exit)) (now (bears .exit)) ⌝ }
@@ -132,25 +133,18 @@ pub fn translate(
     start: u32,
     from: &[u32],
     to: &[u32],
-    marks: &[u32],
+    marks: &[Marks],
     k: u32,
     leaves: &mut [u32],
     arrives: &mut [u32],
-    bears: &mut [u32],
+    bears: &mut [Marks],
 ) -> Translation
     ensures { λ r. ⌜ Outcome (lent n start (now (from .entry)) (now (to .entry)) (now (marks .entry))) k (now (leaves .entry)) (now (arrives .entry)) (now (bears .entry)) r (now (leaves .exit)) (now (arrives .exit)) (now (bears .exit)) ⌝ }
 {
-    let answer = foresee(
-        n,
-        start,
-        from,
-        to,
-        marks,
-        k,
-        leaves.len(),
-        arrives.len(),
-        bears.len(),
-    );
+    let a = leaves.len();
+    let b = arrives.len();
+    let c = bears.len();
+    let answer = foresee(n, start, from, to, marks, k, a, b, c);
     let Translation::Made {
         states: _,
         edges,
@@ -159,20 +153,13 @@ pub fn translate(
     else {
         return answer;
     };
+    let levels = level_count(k);
     let shape = Shape {
         states: n,
         k,
-        levels: level_count(k),
+        levels,
     };
-    fill(
-        shape,
-        from,
-        to,
-        marks,
-        edges as usize,
-        leaves,
-        arrives,
-        bears,
-    );
+    let m = edges as usize;
+    fill(shape, from, to, marks, m, leaves, arrives, bears);
     answer
 }

@@ -1,5 +1,6 @@
 // Writes the translated edges: climbs, then the levels of a row, then the rows, then the whole table.
 // Relies on `table` for the rows. What the three outputs hold is in specs/Translated.antt, what each function asks in specs/Writing.antt.
+use marks::Marks;
 use table::row::run;
 ghost use mathlib.Core.Path.{_≡_};
 ghost use Prim.Native.Nat.{_+_, _*_, _≤_, _<_};
@@ -28,7 +29,7 @@ pub(crate) fn level_count(k: u32) -> u32
 }
 
 // The level that an edge with these marks reaches from this level, k at most: it climbs as many levels as it bears marks in a row.
-fn climb(marks: u32, level: u32, k: u32) -> u32
+fn climb(marks: Marks, level: u32, k: u32) -> u32
     requires { ⌜ k ≤ width ⌝ }
     ensures { λ r. ⌜ r ≡ reached k marks level ⌝ }
 {
@@ -45,10 +46,10 @@ fn climb(marks: u32, level: u32, k: u32) -> u32
 // Where an edge lands: the level at which the translated edge arrives, and the marks that it bears.
 struct Landing {
     level: u32,
-    marks: u32,
+    marks: Marks,
 }
 
-fn land(marks: u32, level: u32, k: u32) -> Landing
+fn land(marks: Marks, level: u32, k: u32) -> Landing
     requires { ⌜ k ≤ width ⌝ }
     ensures { λ r. ⌜ (r .level ≡ landing k marks level) × (r .marks ≡ bearing k marks level) ⌝ }
 {
@@ -77,11 +78,11 @@ fn lift_level(
     level: u32,
     shape: Shape,
     to: &[u32],
-    marks: &[u32],
+    marks: &[Marks],
     at: usize,
     leaves: &mut [u32],
     arrives: &mut [u32],
-    bears: &mut [u32],
+    bears: &mut [Marks],
 ) -> usize
     requires { ⌜ Ladder (shape .states) (shape .k) (shape .levels) ⌝ }
     requires { ⌜ level < shape .levels ⌝ }
@@ -110,11 +111,11 @@ fn lift_row(
     state: u32,
     shape: Shape,
     to: &[u32],
-    marks: &[u32],
+    marks: &[Marks],
     at: usize,
     leaves: &mut [u32],
     arrives: &mut [u32],
-    bears: &mut [u32],
+    bears: &mut [Marks],
 ) -> usize
     requires { ⌜ Ladder (shape .states) (shape .k) (shape .levels) ⌝ }
     requires { ⌜ RowAsked (shape .states) state (now to) (now marks) ⌝ }
@@ -147,10 +148,10 @@ pub(crate) fn lift_table(
     shape: Shape,
     from: &[u32],
     to: &[u32],
-    marks: &[u32],
+    marks: &[Marks],
     leaves: &mut [u32],
     arrives: &mut [u32],
-    bears: &mut [u32],
+    bears: &mut [Marks],
 )
     requires { ⌜ Ladder (shape .states) (shape .k) (shape .levels) ⌝ }
     requires { ⌜ Proper (lent (shape .states) 0 (now from) (now to) (now marks)) ⌝ }

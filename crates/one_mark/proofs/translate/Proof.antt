@@ -25,8 +25,8 @@ returns c =
 level-count-requires : tie.Need-level-count-requires
 level-count-requires c κs = search needs
 
-cast-fill : tie.Need-cast-fill
-cast-fill c = search needs
+cast-m : tie.Need-cast-m
+cast-m c = search needs
 
 fill-requires : tie.Need-fill-requires
 fill-requires c κs =
@@ -62,7 +62,7 @@ translate-spec =
     enum-told
     returns
     level-count-requires
-    cast-fill
+    cast-m
     fill-requires
     same-length
     same-length-2

@@ -2,7 +2,6 @@
 use Prim.Native.Nat.{_-_, _≤_}
 use lib.ListN.{length}
 use borrow.Author.Needs.{needs}
-use native.Mathlib.Omega.{arith}
 use Rattle.one_mark_limits.proofs.print_list.Statement.{statement}
 use Rattle.one_mark_limits.proofs.print_list.Tie as tie
 use Rattle.one_mark_limits.proofs.print_list.Reads as reads

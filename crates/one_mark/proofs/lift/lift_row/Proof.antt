@@ -1,7 +1,7 @@
 -- `lift_row` meets its contract: each turn writes one level more, behind those before (`level-behind`). The measure is the levels left.
 -- Assumes nothing.
 use mathlib.Core.Path.{_≡_}
-use Prim.Native.Nat.{_+_, _-_, _*_, _≤_}
+use Prim.Native.Nat.{_+_, _-_, _*_, _≤_, _<_}
 use native.Mathlib.Omega.{arith}
 use lib.ListN.{length}
 use borrow.Author.Needs.{needs}
@@ -27,8 +27,8 @@ lift-level-requires : tie.Need-lift-level-requires Inv-loop μ-loop
 lift-level-requires c κs =
     let pre = c .before .before .before .before .before .before .before .before .before .before .pre in
     let inv = c .before .before .before .before .loop .inv in
-    let taken = c .before .before .before .loop-test .taken in
-    (pre .0, (taken, (pre .1 .0, level-room _ _ _ _ _ (pre .1 .1) (inv .3) taken (inv .1))))
+    let low : c .before .before .before .before .loop .level < c .before .before .before .before .before .before .before .before .before .before .args .shape .levels = omega arith in
+    (pre .0, (low, (pre .1 .0, level-room _ _ _ _ _ (pre .1 .1) (inv .3) low (inv .1))))
 
 add-level : tie.Need-add-level Inv-loop μ-loop
 add-level c = search needs

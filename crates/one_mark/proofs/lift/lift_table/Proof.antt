@@ -45,9 +45,12 @@ row-at c =
 loop-holds : tie.Need-loop-holds Inv-loop μ-loop
 loop-holds c =
     let entry = c .before .before .before .before .before .before in
-    let a = entry .args in
-    (begins-cut (a .from .now) 0 0 (first-begins (a .from .now)), search needs,
-      states-none (lent (a .shape .states) 0 (a .from .now) (a .to .now) (a .marks .now)) (entry .pre .1 .0) (a .shape .k), search needs)
+    let a = entry .args in (
+      begins-cut (a .from .now) 0 0 (first-begins (a .from .now)),
+      search needs,
+      states-none (lent (a .shape .states) 0 (a .from .now) (a .to .now) (a .marks .now)) (entry .pre .1 .0) (a .shape .k),
+      search needs,
+    )
 
 mul-state : tie.Need-mul-state Inv-loop μ-loop
 mul-state c = search needs
@@ -118,9 +121,12 @@ loop-again c =
     let entry = after .before .before .before .before .before .before .before .before .before .before .before in
     let shape = entry .args .shape in
     let row = row-at after in
-    let wrote = row-behind row (shape .k) (shape .levels) (loop .place) (entry .pre .0 .all) (loop .inv .1) (loop .inv .2 _ (row .begins)) (called .1) in
-    (begins-cut _ _ _ (next row), row-placed row _ _ _ (loop .inv .1) (called .0),
-      λ s begins. states-same (table after) (row .proper) (shape .k) _ s _ (next row) begins wrote, wrote-kept wrote)
+    let wrote = row-behind row (shape .k) (shape .levels) (loop .place) (entry .pre .0 .all) (loop .inv .1) (loop .inv .2 _ (row .begins)) (called .1) in (
+      begins-cut _ _ _ (next row),
+      row-placed row _ _ _ (loop .inv .1) (called .0),
+      λ s begins. states-same (table after) (row .proper) (shape .k) _ s _ (next row) begins wrote,
+      wrote-kept wrote,
+    )
 
 same-length : tie.Need-same-length Inv-loop μ-loop
 same-length c = search needs

@@ -47,6 +47,13 @@ fn too_short(edges: usize, a: usize, b: usize, c: usize) -> bool
     c < edges
 }
 
+// A refusal of row 10 or 11.
+fn refused(number: u32) -> Translation
+    ensures { λ r. ⌜ r ≡ Translation.Refused number 0 ⌝ }
+{
+    Translation::Refused { number, place: 0 }
+}
+
 // What the translation will answer, with lent outputs of the lengths `a`, `b` and `c`.
 fn foresee(
     n: u32,
@@ -69,16 +76,10 @@ fn foresee(
     let states = n * levels;
     let edges = from.len() * (levels as usize);
     if too_large(states, edges) {
-        return Translation::Refused {
-            number: 10,
-            place: 0,
-        };
+        return refused(10);
     }
     if too_short(edges, a, b, c) {
-        return Translation::Refused {
-            number: 11,
-            place: 0,
-        };
+        return refused(11);
     }
     let shape = Shape {
         states: n,

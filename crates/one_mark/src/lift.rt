@@ -124,23 +124,13 @@ fn lift_row(
     ensures { λ r. ⌜ RowWritten (shape .k) state (shape .levels) at (now (to .entry)) (now (marks .entry)) (now (leaves .entry)) (now (arrives .entry)) (now (bears .entry)) (now (leaves .exit)) (now (arrives .exit)) (now (bears .exit)) ⌝ }
 {
     let levels = shape.levels;
-    let mut place = at;
+    let mut next = at;
     let mut level = 0;
     while level < levels {
-        place = lift_level(
-            state,
-            level,
-            shape,
-            to,
-            marks,
-            place,
-            leaves,
-            arrives,
-            bears,
-        );
+        next = lift_level(state, level, shape, to, marks, next, leaves, arrives, bears);
         level += 1;
     }
-    place
+    next
 }
 
 // Writes all translated edges, row by row: a state without edges takes no time.
@@ -163,18 +153,9 @@ pub(crate) fn lift_table(
     while first < from.len() {
         let state = from[first];
         let end = first + run(&from[first..], state);
-        let row_to = &to[first..end];
-        let row_marks = &marks[first..end];
-        place = lift_row(
-            state,
-            shape,
-            row_to,
-            row_marks,
-            place,
-            leaves,
-            arrives,
-            bears,
-        );
+        let ends = &to[first..end];
+        let sets = &marks[first..end];
+        place = lift_row(state, shape, ends, sets, place, leaves, arrives, bears);
         first = end;
     }
 }

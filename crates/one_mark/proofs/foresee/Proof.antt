@@ -76,19 +76,28 @@ mul-edges c = omega (arith, fitting c .1)
 too-large-requires : tie.Need-too-large-requires
 too-large-requires c κs = search needs
 
+refused-requires : tie.Need-refused-requires
+refused-requires c κs = search needs
+
 returns-2 : tie.Need-returns-2
 returns-2 c =
-    let entry = c .before .before .before .before .before .before .before .before .before in
-    answer-large (table entry) (entry .args .k) (entry .args .a) (entry .args .b) (entry .args .c) (sound (c .before .before)) (sym (large-told (c .before)) ∙ c .if1 .taken)
+    let entry = c .before .before .before .before .before .before .before .before .before .before in
+    c .refused .ensures
+    ∙ answer-large (table entry) (entry .args .k) (entry .args .a) (entry .args .b) (entry .args .c) (sound (c .before .before .before))
+    (sym (large-told (c .before .before)) ∙ c .before .if1 .taken)
 
 too-short-requires : tie.Need-too-short-requires
 too-short-requires c κs = search needs
 
+refused-requires-2 : tie.Need-refused-requires-2
+refused-requires-2 c κs = search needs
+
 returns-3 : tie.Need-returns-3
 returns-3 c =
-    let entry = c .before .before .before .before .before .before .before .before .before .before .before in
-    answer-short (table entry) (entry .args .k) (entry .args .a) (entry .args .b) (entry .args .c) (sound (c .before .before .before .before))
-    (sym (large-told (c .before .before .before)) ∙ c .before .before .if1 .left) (sym (short-told (c .before)) ∙ c .if2 .taken)
+    let entry = c .before .before .before .before .before .before .before .before .before .before .before .before in
+    c .refused2 .ensures
+    ∙ answer-short (table entry) (entry .args .k) (entry .args .a) (entry .args .b) (entry .args .c) (sound (c .before .before .before .before .before))
+    (sym (large-told (c .before .before .before .before)) ∙ c .before .before .before .if1 .left) (sym (short-told (c .before .before)) ∙ c .before .if2 .taken)
 
 number-of-requires : tie.Need-number-of-requires
 number-of-requires c κs =
@@ -124,8 +133,10 @@ foresee-spec =
     cast-edges
     mul-edges
     too-large-requires
+    refused-requires
     returns-2
     too-short-requires
+    refused-requires-2
     returns-3
     number-of-requires
     cast-count

@@ -12,13 +12,13 @@ use Rattle.one_mark.proofs.lift.lift_row.Tie as tie
 
 -- the first levels are written, and the next place is behind them
 abbrev Inv-loop : tie.InvT-loop
-Inv-loop state shape to marks at leaves₀ arrives₀ bears₀ levels place₀ level₀ leaves arrives bears place level =
-    (level ≤ levels) × (place ≡ at + level * length to)
+Inv-loop state shape to marks at leaves₀ arrives₀ bears₀ levels next₀ level₀ leaves arrives bears next level =
+    (level ≤ levels) × (next ≡ at + level * length to)
     × RowWritten (shape .k) state level at to marks leaves₀ arrives₀ bears₀ leaves arrives bears
     × Kept leaves₀ arrives₀ bears₀ leaves arrives bears
 
 abbrev μ-loop : tie.MeasureT-loop
-μ-loop state shape to marks at leaves₀ arrives₀ bears₀ levels place₀ level₀ leaves arrives bears place level = levels - level
+μ-loop state shape to marks at leaves₀ arrives₀ bears₀ levels next₀ level₀ leaves arrives bears next level = levels - level
 
 loop-holds : tie.Need-loop-holds Inv-loop μ-loop
 loop-holds c = search needs
@@ -41,7 +41,7 @@ loop-again c =
     let called = c .before .before .before .before .before .before .lift-level .ensures in
     let loop = c .before .before .before .before .before .before .before .before .before .before .before .loop in
     let a = c .before .before .before .before .before .before .before .before .before .before .before .before .before .before .before .before .before .args in
-    let wrote = level-behind (a .shape .k) (a .state) (loop .level) (a .at) (loop .place) (a .to .now) (a .marks .now) (loop .inv .2) (called .1) (loop .inv .1) in
+    let wrote = level-behind (a .shape .k) (a .state) (loop .level) (a .at) (loop .next) (a .to .now) (a .marks .now) (loop .inv .2) (called .1) (loop .inv .1) in
     (search needs, search needs, wrote, wrote-kept wrote)
 
 same-length : tie.Need-same-length Inv-loop μ-loop

@@ -76,29 +76,29 @@ run-requires c κs = search needs
 add-end : tie.Need-add-end Inv-loop μ-loop
 add-end c = omega (arith, row-ends (row-at c))
 
-mul-row-to : tie.Need-mul-row-to Inv-loop μ-loop
-mul-row-to c = search needs
+mul-ends : tie.Need-mul-ends Inv-loop μ-loop
+mul-ends c = search needs
 
-sub-row-to : tie.Need-sub-row-to Inv-loop μ-loop
-sub-row-to c = search needs
+sub-ends : tie.Need-sub-ends Inv-loop μ-loop
+sub-ends c = search needs
 
-part-row-to-start : tie.Need-part-row-to-start Inv-loop μ-loop
-part-row-to-start c = search needs
+part-ends-start : tie.Need-part-ends-start Inv-loop μ-loop
+part-ends-start c = search needs
 
-part-row-to-end : tie.Need-part-row-to-end Inv-loop μ-loop
-part-row-to-end c = omega (arith, row-ends (row-at c), row-at c .proper .to-length)
+part-ends-end : tie.Need-part-ends-end Inv-loop μ-loop
+part-ends-end c = omega (arith, row-ends (row-at c), row-at c .proper .to-length)
 
-mul-row-marks : tie.Need-mul-row-marks Inv-loop μ-loop
-mul-row-marks c = search needs
+mul-sets : tie.Need-mul-sets Inv-loop μ-loop
+mul-sets c = search needs
 
-sub-row-marks : tie.Need-sub-row-marks Inv-loop μ-loop
-sub-row-marks c = search needs
+sub-sets : tie.Need-sub-sets Inv-loop μ-loop
+sub-sets c = search needs
 
-part-row-marks-start : tie.Need-part-row-marks-start Inv-loop μ-loop
-part-row-marks-start c = search needs
+part-sets-start : tie.Need-part-sets-start Inv-loop μ-loop
+part-sets-start c = search needs
 
-part-row-marks-end : tie.Need-part-row-marks-end Inv-loop μ-loop
-part-row-marks-end c = omega (arith, row-ends (row-at (c .before)), row-at (c .before) .proper .marks-length)
+part-sets-end : tie.Need-part-sets-end Inv-loop μ-loop
+part-sets-end c = omega (arith, row-ends (row-at (c .before)), row-at (c .before) .proper .marks-length)
 
 lift-row-requires : tie.Need-lift-row-requires Inv-loop μ-loop
 lift-row-requires c κs =
@@ -161,14 +161,14 @@ lift-table-spec =
     part-run-end
     run-requires
     add-end
-    mul-row-to
-    sub-row-to
-    part-row-to-start
-    part-row-to-end
-    mul-row-marks
-    sub-row-marks
-    part-row-marks-start
-    part-row-marks-end
+    mul-ends
+    sub-ends
+    part-ends-start
+    part-ends-end
+    mul-sets
+    sub-sets
+    part-sets-start
+    part-sets-end
     lift-row-requires
     loop-less
     loop-again

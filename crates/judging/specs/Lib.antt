@@ -1,6 +1,13 @@
+pub mod Answer
 pub mod Cells
-pub mod Region
-pub mod Search
+pub mod Cutting
+pub mod Hunt
+pub mod Judgement
 pub mod Parts
 pub mod Reach
+pub mod Reaching
+pub mod Region
+pub mod Search
+pub mod Searching
 pub mod Tied
+pub mod Tying

@@ -186,8 +186,8 @@ has-power i j = (to, from)
         below j i
         (λ l. absurd (omega (arith, div-eq-of-lt (pow-lt l))))
         (λ l. same i j (λ q. q) (λ q.
-          let e : suc (j - i - 1) ≡ j - i = omega arith in
-          absurd (omega (arith, shifted l, ap (λ (n : ℕ). 2 ^ n) e, pow-suc 2 (j - i - 1)))))
+        let e : suc (j - i - 1) ≡ j - i = omega arith in
+        absurd (omega (arith, shifted l, ap (λ (n : ℕ). 2 ^ n) e, pow-suc 2 (j - i - 1)))))
 
     from : i ≡ j → 2 ^ j / 2 ^ i % 2 ≡ 1
     from q =

@@ -19,7 +19,7 @@ use Rattle.table.specs.Refusal.{either, someNeed, used, wrongStates, wro
 
 -- ---- the tests, taken apart and put together
 
-either-false : (a b : Bool) → either a b ≡ false → (a ≡ false) × (b ≡ false)
+pub either-false : (a b : Bool) → either a b ≡ false → (a ≡ false) × (b ≡ false)
 either-false true b e = absurd (true≢false e)
 either-false false b e = (refl, e)
 

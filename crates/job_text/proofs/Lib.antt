@@ -1,0 +1,5 @@
+pub mod Table
+pub mod Pad
+pub mod Text
+pub mod Values
+pub mod Needs

@@ -1,0 +1,4 @@
+pub mod Text
+pub mod Value
+pub mod Job
+pub mod Given

@@ -3,3 +3,4 @@ pub mod Pad
 pub mod Text
 pub mod Values
 pub mod Needs
+pub mod Lines

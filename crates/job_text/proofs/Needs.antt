@@ -1,6 +1,6 @@
 -- A list of needs, field by field. Assumes nothing.
 use mathlib.Core.Path.{_≡_, refl, sym, ap, _∙_}
-use mathlib.Core.Bool.{true, false≢true, cond}
+use mathlib.Core.Bool.{true, false, false≢true, cond}
 use mathlib.Core.List.{List, [], _∷_, _++_, append-assoc, append-nil}
 use mathlib.Core.Option.{Option, some, none}
 use Prim.Native.Nat.{ℕ, zero, suc, _+_, _-_, _≤_, _<_, zero-le}
@@ -14,6 +14,8 @@ use Rattle.table.specs.Refusal.{mostRabin}
 use Rattle.table.specs.Row.{part}
 use Rattle.job_text.specs.declared.value.Kind.{Kind}
 use Rattle.job_text.specs.declared.value.Kind.the-variants.{Buchi, Streett, Rabin}
+use Rattle.job_text.specs.declared.value.NeedList.{NeedList}
+use Rattle.job_text.specs.Given.{needsGiven}
 use Rattle.job_text.specs.Text.{comma, fields, FirstAt}
 use Rattle.job_text.specs.Value.{andThen, padTo, padded, eight, number, listed, hasNeeds, mostCount}
 use Rattle.job_text.proofs.Pad.{pad-more}
@@ -107,3 +109,10 @@ pub needs-few : (k : Kind) (count : ℕ) → hasNeeds k count ≡ true → count
 needs-few Buchi count t l = absurd (false≢true t)
 needs-few Streett count t l = absurd (false≢true t)
 needs-few Rabin count t l = l
+
+-- what a list of needs says
+pub needs-wrong : (l : NeedList) (o : Option (List ℕ)) → needsGiven l ≡ o → l .formed ≡ false → o ≡ none
+needs-wrong l o e t = sym e ∙ rw t
+
+pub needs-right : (l : NeedList) (o : Option (List ℕ)) → needsGiven l ≡ o → l .formed ≡ true → o ≡ some (l .needs)
+needs-right l o e t = sym e ∙ rw t

@@ -4,3 +4,4 @@ pub mod Text
 pub mod Values
 pub mod Needs
 pub mod Lines
+pub mod Heads

@@ -45,10 +45,11 @@ module _ (text : List ℕ) (at e : ℕ) (f : FirstAt text at newline e) where
     pub line-short : e < at + length key → keyed key (lines (drop at text)) ≡ missing
     line-short s =
         let n : length (part at e text) ≡ e - at = omega (arith, length-take (e - at) (drop at text), length-drop at text) in
-        rw
-        ( line-at l
-        , take-all (length key) (part at e text) (omega arith)
-        , same-length (part at e text) key (λ (q : length (part at e text) ≡ length key). omega (arith, f .low)))
+        rw (
+          line-at l,
+          take-all (length key) (part at e text) (omega arith),
+          same-length (part at e text) key (λ (q : length (part at e text) ≡ length key). omega (arith, f .low)),
+        )
 
     -- what stands where the key should decides
     key-here : at + length key ≤ e → begins key (part at e text) ≡ same (part at (at + length key) text) key

@@ -31,8 +31,8 @@ left-cut bs at e l f =
     below e (length bs)
     (λ k. rw (le-leb at (length bs) l, le-leb (e + 1) (length bs) (omega arith)) (field-at bs at e f k))
     (λ k.
-      let q : e ≡ length bs = omega (arith, f .high l) in
-      rw (le-leb at (length bs) l, lt-leb (e + 1) (length bs) (omega arith), q) (field-last bs at e f l k))
+    let q : e ≡ length bs = omega (arith, f .high l) in
+    rw (le-leb at (length bs) l, lt-leb (e + 1) (length bs) (omega arith), q) (field-last bs at e f l k))
 
 -- ds, then what is given
 abbrev pub front : List ℕ → Option (List ℕ) → Option (List ℕ)
@@ -97,12 +97,13 @@ module _ (bs : List ℕ) (count : ℕ) (cells : List ℕ) (at i : ℕ) (s : SoFa
     unfolding listed
     need-more d w c =
         let k : count - i ≡ suc (count - (i + 1)) = omega arith in
-        record
-        { given = s .given ++ (d ∷ [])
-        ; many = omega (arith, length-append (s .given) (d ∷ []), s .many)
-        ; few = omega arith
-        ; held = rw (s .held, ← s .many) (pad-more mostRabin (s .given) d (omega (arith, s .many)))
-        ; rest = rw (s .rest, k, left-cut bs at e l f, w) (front-more (s .given) d (listed (count - (i + 1)) (left bs (e + 1)))) }
+        record {
+          given = s .given ++ (d ∷ []);
+          many = omega (arith, length-append (s .given) (d ∷ []), s .many);
+          few = omega arith;
+          held = rw (s .held, ← s .many) (pad-more mostRabin (s .given) d (omega (arith, s .many)));
+          rest = rw (s .rest, k, left-cut bs at e l f, w) (front-more (s .given) d (listed (count - (i + 1)) (left bs (e + 1))));
+        }
 
 -- only rabin has needs, and row 4 allows it eight pairs
 pub needs-few : (k : Kind) (count : ℕ) → hasNeeds k count ≡ true → count ≤ mostCount k → count ≤ mostRabin

@@ -50,8 +50,8 @@ hex-below b d e =
     byTest (between 48 57 b)
     (λ t. let q : some (b - 48) ≡ some d = rw t at e in let w : b - 48 ≡ d = cc in omega (arith, inside 48 57 b t .1))
     (λ t.
-      let g : (between 97 102 b ≡ true) × (b - 87 ≡ d) = gives (between 97 102 b) (b - 87) d (rw t at e) in
-      omega (arith, inside 97 102 b (g .0) .1, g .1))
+    let g : (between 97 102 b ≡ true) × (b - 87 ≡ d) = gives (between 97 102 b) (b - 87) d (rw t at e) in
+    omega (arith, inside 97 102 b (g .0) .1, g .1))
 
 -- ---- digits one after the other, whatever the base
 

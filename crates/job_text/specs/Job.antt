@@ -146,22 +146,37 @@ pub record Head : Type 0 where
   pub needs : List ℕ
   pub edges : ℕ
 
--- "Keys stand in this order: states, start, kind, count, need, edges, .."
-abbrev pub headLines : Reader Head
-headLines = do
-  n ← next (asked states= number (above mostStates))
-  s ← next (asked start= number unlimited)
-  k ← kindLine
+-- ".. count, need, edges, .."
+abbrev pub countLines : ℕ → ℕ → Kind → Reader Head
+countLines n s k = do
   c ← next (asked count= number (above (mostCount k)))
   ds ← next (asked need= (needs k c) unlimited)
   m ← next (asked edges= number (above mostEdges))
   give (record { states = n; start = s; kind = k; count = c; needs = ds; edges = m })
 
+-- "Keys stand in this order: states, start, kind, .."
+abbrev pub headLines : Reader Head
+headLines = do
+  n ← next (asked states= number (above mostStates))
+  s ← next (asked start= number unlimited)
+  k ← kindLine
+  countLines n s k
+
 abbrev pub edgeLines : ℕ → Reader (List Edge)
 edgeLines m = times m (next (asked edge= edge unlimited))
 
-abbrev pub endLine : Reader (Unit {0})
-endLine = next (asked end= end unlimited)
+-- the end line, and nothing after it
+abbrev pub endLines : Reader (Unit {0})
+endLines = do
+  e ← next (asked end= end unlimited)
+  over
+
+-- ".. one edge line per edge, end."
+abbrev pub bodyLines : ℕ → Reader (List Edge)
+bodyLines m = do
+  es ← edgeLines m
+  o ← endLines
+  give es
 
 -- what a job says
 pub record Job : Type 0 where
@@ -174,13 +189,10 @@ pub record Job : Type 0 where
 abbrev pub jobOf : Head → List Edge → Job
 jobOf h es = record { states = h .states; start = h .start; condition = condition (h .kind) (h .count); needs = h .needs; edges = es }
 
--- ".. one edge line per edge, end."
 abbrev pub jobLines : Reader Job
 jobLines = do
   h ← headLines
-  es ← edgeLines (h .edges)
-  e ← endLine
-  o ← over
+  es ← bodyLines (h .edges)
   give (jobOf h es)
 
 -- what the text says as a whole: a job, or the number and the place of its first fault

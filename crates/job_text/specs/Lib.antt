@@ -2,3 +2,4 @@ pub mod Text
 pub mod Value
 pub mod Job
 pub mod Given
+pub mod Reading

@@ -1,8 +1,14 @@
 // The lines of the job text: each is found by its key at a place of the text, and its value is read. Relies on `part` and `value`.
-use crate::part::{alike, find};
-use crate::value::{
-    EdgeValue, Kind, KindWord, Number, read_edge, read_kind, read_needs, read_number,
-};
+use crate::part::alike;
+use crate::part::find;
+use crate::value::EdgeValue;
+use crate::value::Kind;
+use crate::value::KindWord;
+use crate::value::Number;
+use crate::value::read_edge;
+use crate::value::read_kind;
+use crate::value::read_needs;
+use crate::value::read_number;
 ghost use mathlib.Core.Path.{_≡_};
 ghost use Prim.Native.Nat.{_≤_, _<_};
 ghost use lib.ListN.{drop};
@@ -15,7 +21,9 @@ const NEWLINE: u8 = 10;
 
 // Rows 21 to 23.
 pub(crate) const MISSING: u32 = 21;
+
 const MALFORMED: u32 = 22;
+
 const ABOVE: u32 = 23;
 
 // Whether a line is there with its key, and then where its value stands: from the key to the newline byte.
@@ -38,7 +46,9 @@ pub(crate) enum EdgeLine {
         marks: u32,
         next: usize,
     },
-    Fault { number: u32 },
+    Fault {
+        number: u32,
+    },
 }
 
 // The kind and where the next line begins, with that line's number; or the fault and its place.

@@ -10,7 +10,7 @@ ghost use Rattle.job_text.specs.Value.{digit, hexDigit, spelt, atMost, m
 ghost use Rattle.job_text.specs.Given.{numberGiven, Commas2, CommasAt, edgeGiven, kindGiven, needsGiven};
 
 // The largest number of the job text.
-const MOST_NUMBER: u32 = 65535;
+pub(crate) const MOST_NUMBER: u32 = 65535;
 
 const COMMA: u8 = 44;
 

@@ -46,7 +46,7 @@ returns-2 c =
     let a = c .before .before .before .before .before .before .before .before .before .args in
     let f = c .before .before .before .before .before .before .find-line in
     sym (asked-malformed edge unlimited (now (a .text)) (a .at) edge= (f .result) (f .ensures) (not-false _ (c .before .before .before .before .if1 .left))
-      (sym (c .before .before .read-edge .ensures) ∙ ap edgeGiven (c .enum-told .given .1)))
+    (sym (c .before .before .read-edge .ensures) ∙ ap edgeGiven (c .enum-told .given .1)))
 
 add-t15 : tie.Need-add-t15
 add-t15 c = search needs
@@ -56,7 +56,7 @@ returns-3 c =
     let a = c .before .before .before .before .before .before .before .before .before .before .args in
     let f = c .before .before .before .before .before .before .before .find-line in
     sym (asked-says edge unlimited (now (a .text)) (a .at) edge= (f .result) (f .ensures) _ (not-false _ (c .before .before .before .before .before .if1 .left))
-      (sym (c .before .before .before .read-edge .ensures) ∙ ap edgeGiven (c .before .from .given .1)) refl)
+    (sym (c .before .before .before .read-edge .ensures) ∙ ap edgeGiven (c .before .from .given .1)) refl)
 
 pub edge-line-spec : {M : Type 1} → statement M
 edge-line-spec =

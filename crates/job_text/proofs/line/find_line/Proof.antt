@@ -48,10 +48,11 @@ returns-3 : tie.Need-returns-3
 returns-3 c =
     let a = c .before .before .before .before .before .before .before .before .args in
     let f = c .before .before .before .before .before .find in
-    record
-    { ordered = c .before .before .before .if2 .left
-    ; ends = omega arith
-    ; is = sym (line-found (now (a .text)) (a .at) (f .result) (f .ensures) (now (a .key)) (c .before .before .before .before .if1 .left) (c .before .before .before .if2 .left) (sym (c .before .alike .ensures) ∙ c .if3 .taken)) }
+    record {
+      ordered = c .before .before .before .if2 .left;
+      ends = omega arith;
+      is = sym (line-found (now (a .text)) (a .at) (f .result) (f .ensures) (now (a .key)) (c .before .before .before .before .if1 .left) (c .before .before .before .if2 .left) (sym (c .before .alike .ensures) ∙ c .if3 .taken));
+    }
 
 no-span-requires-3 : tie.Need-no-span-requires-3
 no-span-requires-3 c κs = search needs

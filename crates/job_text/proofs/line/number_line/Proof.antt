@@ -43,14 +43,14 @@ returns-2 c =
     let a = c .before .before .before .before .before .before .before .before .before .args in
     let f = c .before .before .before .before .before .before .find-line in
     sym (asked-malformed number (above (a .most)) (now (a .text)) (a .at) (now (a .key)) (f .result) (f .ensures) (not-false _ (c .before .before .before .before .if1 .left))
-      (sym (c .before .before .read-number .ensures) ∙ ap numberGiven (c .enum-told .given .1)))
+    (sym (c .before .before .read-number .ensures) ∙ ap numberGiven (c .enum-told .given .1)))
 
 returns-3 : tie.Need-returns-3
 returns-3 c =
     let a = c .before .before .before .before .before .before .before .before .before .before .before .args in
     let f = c .before .before .before .before .before .before .before .before .find-line in
     sym (asked-above number (above (a .most)) (now (a .text)) (a .at) (now (a .key)) (f .result) (f .ensures) (c .before .before .value .given .0 .0) (not-false _ (c .before .before .before .before .before .before .if1 .left))
-      (sym (c .before .before .before .before .read-number .ensures) ∙ ap numberGiven (c .before .before .value .given .1)) (lt-ltb _ _ (c .if2 .taken)))
+    (sym (c .before .before .before .before .read-number .ensures) ∙ ap numberGiven (c .before .before .value .given .1)) (lt-ltb _ _ (c .if2 .taken)))
 
 add-t12 : tie.Need-add-t12
 add-t12 c = search needs
@@ -60,7 +60,7 @@ returns-4 c =
     let a = c .before .before .before .before .before .before .before .before .before .before .before .args in
     let f = c .before .before .before .before .before .before .before .before .find-line in
     sym (asked-says number (above (a .most)) (now (a .text)) (a .at) (now (a .key)) (f .result) (f .ensures) (c .before .before .value .given .0 .0) (not-false _ (c .before .before .before .before .before .before .if1 .left))
-      (sym (c .before .before .before .before .read-number .ensures) ∙ ap numberGiven (c .before .before .value .given .1)) (le-ltb _ _ (c .if2 .left)))
+    (sym (c .before .before .before .before .read-number .ensures) ∙ ap numberGiven (c .before .before .value .given .1)) (le-ltb _ _ (c .if2 .left)))
 
 pub number-line-spec : {M : Type 1} → statement M
 number-line-spec =

@@ -28,10 +28,11 @@ returns : tie.Need-returns Inv-loop μ-loop
 returns c =
     let a = c .before .before .before .before .args in
     let l = c .before .before .before .loop in
-    record
-    { place = omega (arith, l .inv, ahead-hit (a .byte) (now (a .bytes)) (l .i) (omega arith) (c .if1 .taken))
-    ; low = l .inv .0
-    ; high = λ h. omega arith }
+    record {
+      place = omega (arith, l .inv, ahead-hit (a .byte) (now (a .bytes)) (l .i) (omega arith) (c .if1 .taken));
+      low = l .inv .0;
+      high = λ h. omega arith;
+    }
 
 add-i : tie.Need-add-i Inv-loop μ-loop
 add-i c = search needs
@@ -50,10 +51,11 @@ returns-2 c =
     let a = c .before .before .args in
     let l = c .before .loop in
     let e = ahead-end (a .byte) (now (a .bytes)) (l .i) (c .loop-test .left) in
-    record
-    { place = omega (arith, l .inv, e)
-    ; low = l .inv .0
-    ; high = λ h. omega (arith, l .inv, e, reach (a .byte) (now (a .bytes)) (a .from) h) }
+    record {
+      place = omega (arith, l .inv, e);
+      low = l .inv .0;
+      high = λ h. omega (arith, l .inv, e, reach (a .byte) (now (a .bytes)) (a .from) h);
+    }
 
 pub find-spec : {M : Type 1} → statement M
 find-spec =

@@ -52,8 +52,8 @@ reads c = sym (c .before .before .before .digit-value .ensures) ∙ ap numberGiv
 -- the digit is taken on
 more : (c : tie.After-known-told Inv-loop μ-loop)
     → let l = c .before .before .before .before .before .before .loop in
-      let bs = now (c .before .before .before .before .before .before .before .before .args .bytes) in
-      spelt digit 10 0 bs ≡ spelt digit 10 (l .value * 10 + c .before .d .given .0 .0) (drop (l .i + 1) bs)
+    let bs = now (c .before .before .before .before .before .before .before .before .args .bytes) in
+    spelt digit 10 0 bs ≡ spelt digit 10 (l .value * 10 + c .before .d .given .0 .0) (drop (l .i + 1) bs)
 more c =
     let l = c .before .before .before .before .before .before .loop in
     l .inv .2

@@ -58,7 +58,7 @@ returns-2 c =
     let l = c .before .before .before .before .before .before .before .before .loop in
     c .no-needs2 .ensures
     ∙ sym (need-wrong (now (a .bytes)) (a .count) (l .needs) (l .at) (l .i) (l .inv) (c .before .before .before .before .before .find .result) (c .before .before .before .before .before .before .if1 .left) (c .before .before .before .before .before .find .ensures) (c .before .before .before .before .before .before .before .loop-test .taken)
-      (sym (c .before .before .before .read-number .ensures) ∙ ap numberGiven (c .before .enum-told .given .1)))
+    (sym (c .before .before .before .read-number .ensures) ∙ ap numberGiven (c .before .enum-told .given .1)))
 
 mul-needs : tie.Need-mul-needs Inv-loop μ-loop
 mul-needs c = search needs

@@ -80,10 +80,11 @@ loop-again : tie.Need-loop-again Inv-loop μ-loop
 loop-again c =
     let l = c .before .before .before .before .before .before .loop in
     let d = c .before .d .given .0 .0 in
-    let bs = now (c .before .before .before .before .before .before .before .before .before .args .bytes) in
-    ( omega arith
-    , hex-more (l .i) (l .value) d (l .inv .1) (hex-below (byte c) d (reads c))
-    , l .inv .2 ∙ spelt-more hexDigit 16 bs (l .i) (l .value) d (omega arith) (reads c))
+    let bs = now (c .before .before .before .before .before .before .before .before .before .args .bytes) in (
+      omega arith,
+      hex-more (l .i) (l .value) d (l .inv .1) (hex-below (byte c) d (reads c)),
+      l .inv .2 ∙ spelt-more hexDigit 16 bs (l .i) (l .value) d (omega arith) (reads c),
+    )
 
 returns-3 : tie.Need-returns-3 Inv-loop μ-loop
 unfolding hexWord

@@ -5,3 +5,4 @@ pub mod Values
 pub mod Needs
 pub mod Lines
 pub mod Heads
+pub mod Bodies

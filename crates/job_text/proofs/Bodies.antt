@@ -15,7 +15,7 @@ use Rattle.job_text.specs.Text.{newline, Lines, done, broken, line, long
 use Rattle.job_text.specs.Value.{Edge, edge, end, padTo}
 use Rattle.job_text.specs.Job.{Line, says, fault, asked, unlimited, edge=, end=, mostEdges, Found, found, refused, goOn, next, times, over, edgeLines, endLines, bodyLines}
 use Rattle.job_text.specs.Given.{edgeSays}
-use Rattle.job_text.specs.Reading.{edgeFault, Held, Blank, Told, EdgesTold, ending}
+use Rattle.job_text.specs.Reading.{edgeFault, Held, Blank, Told, EdgesTold, ending, BodyAt}
 use Rattle.job_text.proofs.Pad.{pad-more}
 use Rattle.job_text.proofs.Text.{byTest}
 
@@ -130,3 +130,16 @@ module _ (text : List ℕ) where
   pub edge-line-goes : {l : EdgeLine} {f t m after : ℕ} {said : Line Edge} → l ≡ edgeLine.Edge f t m after → edgeSays text l ≡ said
       → said ≡ says (record { from = f; to = t; marks = m }) (lines (drop after text))
   edge-line-goes e a = sym a ∙ rw e
+
+-- ---- the edges and the end together
+
+pub body-stops : (m place : ℕ) (ls : Lines) (x p : ℕ) → edgeLines m place ls ≡ refused x p → bodyLines m place ls ≡ refused x p
+body-stops m place ls x p e = rw e
+
+pub body-ends : (text : List ℕ) (at place m here : ℕ) (from to marks : List ℕ) (r : Finding) → EdgesTold text at place m here from to marks
+    → r ≡ ending (endLines (place + m) (lines (drop here text))) → BodyAt text at place m from to marks r
+body-ends text at place m here from to marks r t q = go (endLines (place + m) (lines (drop here text))) refl q
+  where
+    go : (f : Found (Unit {0})) → endLines (place + m) (lines (drop here text)) ≡ f → r ≡ ending f → BodyAt text at place m from to marks r
+    go (found u p ls) e s = rw s (record { given = t .given; many = t .many; place = p; rest = ls; read = rw (t .read, e); held = t .held })
+    go (refused x p) e s = rw s (rw (t .read, e))

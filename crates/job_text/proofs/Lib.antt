@@ -6,3 +6,4 @@ pub mod Needs
 pub mod Lines
 pub mod Heads
 pub mod Bodies
+pub mod Jobs

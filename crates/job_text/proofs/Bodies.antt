@@ -73,12 +73,13 @@ pub so-far-none : (text : List ℕ) (at first count : ℕ) (from to marks : List
 so-far-none text at first count from to marks b =
     let c : count - 0 ≡ count = omega arith in
     let p : first + 0 ≡ first = omega arith in
-    record
-    { given = []
-    ; many = refl
-    ; few = zero-le
-    ; held = record { froms = b .from-blank; tos = b .to-blank; sets = b .marks-blank }
-    ; rest = rw (c, p) (front-none (edgeLines count first (lines (drop at text)))) }
+    record {
+      given = [];
+      many = refl;
+      few = zero-le;
+      held = record { froms = b .from-blank; tos = b .to-blank; sets = b .marks-blank };
+      rest = rw (c, p) (front-none (edgeLines count first (lines (drop at text))));
+    }
 
 front-more : (es : List Edge) (e : Edge) (f : Found (List Edge)) → front es (goOn f (λ fs p ls. found (e ∷ fs) p ls)) ≡ front (es ++ (e ∷ [])) f
 front-more es e (found fs p ls) = rw append-assoc
@@ -103,17 +104,19 @@ module _ (text : List ℕ) (at first count : ℕ) (from to marks : List ℕ) (he
       let k : count - i ≡ suc (count - (i + 1)) = omega arith in
       let p : first + i + 1 ≡ first + (i + 1) = omega arith in
       let few : length (s .given) < mostEdges = omega (arith, s .many) in
-      record
-      { given = s .given ++ (f ∷ [])
-      ; many = omega (arith, length-append (s .given) (f ∷ []), s .many)
-      ; few = omega arith
-      ; held =
-          rw (← s .many)
-          (record
-          { froms = column-more (λ d. d .from) (s .given) f from few (s .held .froms)
-          ; tos = column-more (λ d. d .to) (s .given) f to few (s .held .tos)
-          ; sets = column-more (λ d. d .marks) (s .given) f marks few (s .held .sets) })
-      ; rest = rw (s .rest, k, e, p) (front-more (s .given) f (edgeLines (count - (i + 1)) (first + (i + 1)) (lines (drop after text)))) }
+      record {
+        given = s .given ++ (f ∷ []);
+        many = omega (arith, length-append (s .given) (f ∷ []), s .many);
+        few = omega arith;
+        held =
+            rw (← s .many)
+            (record {
+              froms = column-more (λ d. d .from) (s .given) f from few (s .held .froms);
+              tos = column-more (λ d. d .to) (s .given) f to few (s .held .tos);
+              sets = column-more (λ d. d .marks) (s .given) f marks few (s .held .sets);
+            });
+        rest = rw (s .rest, k, e, p) (front-more (s .given) f (edgeLines (count - (i + 1)) (first + (i + 1)) (lines (drop after text))));
+      }
 
   -- all of them are read
   pub edges-done : i ≡ count → EdgesTold text at first count here from to marks

@@ -18,16 +18,16 @@ slice-aggregate-number-line c = search simple
 -- what the count line says
 counts : (c : tie.After-known-told)
     → let a = c .before .before .before .before .before .before .before .args in
-      asked count= number (above (mostCount (a .kind))) (lines (drop (a .at) (now (a .text))))
-      ≡ says (c .before .counted .given .0 .0) (lines (drop (c .before .counted .given .0 .1 .0) (now (a .text))))
+    asked count= number (above (mostCount (a .kind))) (lines (drop (a .at) (now (a .text))))
+    ≡ says (c .before .counted .given .0 .0) (lines (drop (c .before .counted .given .0 .1 .0) (now (a .text))))
 counts c =
     rw (c .before .before .before .before .most-count .ensures) at (number-goes (now (c .before .before .before .before .before .before .before .args .text)) (c .before .counted .given .1) (c .before .before .before .number-line .ensures))
 
 -- and the need line
 needs-said : (c : tie.After-known-told2)
     → let a = c .before .before .before .before .before .before .before .before .before .before .before .args in
-      asked need= (needs (a .kind) (c .before .before .before .before .before .counted .given .0 .0)) unlimited (lines (drop (c .before .before .before .before .before .counted .given .0 .1 .0) (now (a .text))))
-      ≡ says (c .before .before .before .need-line .result .needs) (lines (drop (c .before .step .given .0 .0) (now (a .text))))
+    asked need= (needs (a .kind) (c .before .before .before .before .before .counted .given .0 .0)) unlimited (lines (drop (c .before .before .before .before .before .counted .given .0 .1 .0) (now (a .text))))
+    ≡ says (c .before .before .before .need-line .result .needs) (lines (drop (c .before .step .given .0 .0) (now (a .text))))
 needs-said c = step-goes (now (c .before .before .before .before .before .before .before .before .before .before .before .args .text)) (c .before .step .given .1) (c .before .before .before .need-line .ensures)
 
 most-count-requires : tie.Need-most-count-requires
@@ -53,7 +53,7 @@ returns c =
     let a = c .before .before .before .before .before .before .before .before .args in
     head-stops (now (a .text)) _ _ _ _ (c .head-refused .ensures)
     (count-stops (a .states) (a .start) (a .kind) (a .line) (lines (drop (a .at) (now (a .text)))) _
-      (rw (c .before .before .before .before .before .most-count .ensures) at (number-stops (now (a .text)) (c .before .number-fault .ensures) (c .before .before .enum-told .given .1) (c .before .before .before .before .number-line .ensures))))
+    (rw (c .before .before .before .before .before .most-count .ensures) at (number-stops (now (a .text)) (c .before .number-fault .ensures) (c .before .before .enum-told .given .1) (c .before .before .before .before .number-line .ensures))))
 
 need-line-requires : tie.Need-need-line-requires
 need-line-requires c κs =
@@ -80,7 +80,7 @@ returns-2 c =
     let a = c .before .before .before .before .before .before .before .before .before .before .before .before .args in
     head-stops (now (a .text)) _ _ _ _ (c .head-refused2 .ensures)
     (need-stops (a .states) (a .start) (a .kind) (a .line) (lines (drop (a .at) (now (a .text)))) _ _ (counts (c .before .before .before .before .before)) _
-      (step-stops (now (a .text)) (c .before .before .before .before .need-line .result .needs) (c .before .step-fault .ensures) (c .before .before .enum-told2 .given .1) (c .before .before .before .before .need-line .ensures)))
+    (step-stops (now (a .text)) (c .before .before .before .before .need-line .result .needs) (c .before .step-fault .ensures) (c .before .before .enum-told2 .given .1) (c .before .before .before .before .need-line .ensures)))
 
 slice-aggregate-number-line-2 : tie.Need-slice-aggregate-number-line-2
 slice-aggregate-number-line-2 c = search simple
@@ -108,7 +108,7 @@ returns-3 c =
     let a = c .before .before .before .before .before .before .before .before .before .before .before .before .before .before .before .before .before .before .args in
     head-stops (now (a .text)) _ _ _ _ (c .head-refused3 .ensures)
     (edges-stop (a .states) (a .start) (a .kind) (a .line) (lines (drop (a .at) (now (a .text)))) _ _ (counts (c .before .before .before .before .before .before .before .before .before .before .before)) _ _ (needs-said (c .before .before .before .before .before .before .before)) _
-      (number-stops (now (a .text)) (c .before .number-fault2 .ensures) (c .before .before .enum-told3 .given .1) (c .before .before .before .before .number-line2 .ensures)))
+    (number-stops (now (a .text)) (c .before .number-fault2 .ensures) (c .before .before .enum-told3 .given .1) (c .before .before .before .before .number-line2 .ensures)))
 
 add-t21 : tie.Need-add-t21
 add-t21 c = search simple
@@ -117,10 +117,11 @@ returns-4 : tie.Need-returns-4
 returns-4 c =
     let a = c .before .before .before .before .before .before .before .before .before .before .before .before .before .before .before .before .before .args in
     let sized = number-goes (now (a .text)) (c .before .sized .given .1) (c .before .before .before .number-line2 .ensures) in
-    record
-    { is = sym (edges-go (a .states) (a .start) (a .kind) (a .line) (lines (drop (a .at) (now (a .text)))) _ _ (counts (c .before .before .before .before .before .before .before .before .before .before)) _ _ (needs-said (c .before .before .before .before .before .before)) _ _ sized)
-    ; few = says-below edges= mostEdges (lines (drop (c .before .before .before .before .before .before .before .step .given .0 .0) (now (a .text)))) _ _ sized
-    ; early = omega (arith, c .before .before .before .before .before .before .before .before .before .before .before .before .before .before .before .before .before .pre) }
+    record {
+      is = sym (edges-go (a .states) (a .start) (a .kind) (a .line) (lines (drop (a .at) (now (a .text)))) _ _ (counts (c .before .before .before .before .before .before .before .before .before .before)) _ _ (needs-said (c .before .before .before .before .before .before)) _ _ sized);
+      few = says-below edges= mostEdges (lines (drop (c .before .before .before .before .before .before .before .step .given .0 .0) (now (a .text)))) _ _ sized;
+      early = omega (arith, c .before .before .before .before .before .before .before .before .before .before .before .before .before .before .before .before .before .pre);
+    }
 
 pub read-counts-spec : {M : Type 1} → statement M
 read-counts-spec =

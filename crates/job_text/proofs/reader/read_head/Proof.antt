@@ -18,21 +18,21 @@ slice-aggregate-number-line c = search needs
 -- what the first line says
 states-said : (c : tie.After-known-told)
     → let text = now (c .before .before .before .before .before .before .args .text) in
-      asked states= number (above mostStates) (lines text) ≡ says (c .before .first .given .0 .0) (lines (drop (c .before .first .given .0 .1 .0) text))
+    asked states= number (above mostStates) (lines text) ≡ says (c .before .first .given .0 .0) (lines (drop (c .before .first .given .0 .1 .0) text))
 states-said c = number-goes (now (c .before .before .before .before .before .before .args .text)) (c .before .first .given .1) (c .before .before .before .number-line .ensures)
 
 -- and the second
 start-said : (c : tie.After-known-told2)
     → let text = now (c .before .before .before .before .before .before .before .before .before .before .before .args .text) in
-      asked start= number (above mostNumber) (lines (drop (c .before .before .before .before .before .before .first .given .0 .1 .0) text))
-      ≡ says (c .before .second .given .0 .0) (lines (drop (c .before .second .given .0 .1 .0) text))
+    asked start= number (above mostNumber) (lines (drop (c .before .before .before .before .before .before .first .given .0 .1 .0) text))
+    ≡ says (c .before .second .given .0 .0) (lines (drop (c .before .second .given .0 .1 .0) text))
 start-said c = number-goes (now (c .before .before .before .before .before .before .before .before .before .before .before .args .text)) (c .before .second .given .1) (c .before .before .before .number-line2 .ensures)
 
 -- and the kind line
 kind-said : (c : tie.After-known-told4)
     → let text = now (c .before .before .before .before .before .before .before .before .before .before .before .before .before .before .before .args .text) in
-      kindLine 3 (lines (drop (c .before .before .before .before .before .second .given .0 .1 .0) text))
-      ≡ found (c .before .kind .given .0 .0) (c .before .kind .given .0 .1 .1 .0) (lines (drop (c .before .kind .given .0 .1 .0) text))
+    kindLine 3 (lines (drop (c .before .before .before .before .before .second .given .0 .1 .0) text))
+    ≡ found (c .before .kind .given .0 .0) (c .before .kind .given .0 .1 .1 .0) (lines (drop (c .before .kind .given .0 .1 .0) text))
 kind-said c = sym (c .before .before .before .kind-line .ensures) ∙ ap (kindFound (now (c .before .before .before .before .before .before .before .before .before .before .before .before .before .before .before .args .text))) (c .before .kind .given .1)
 
 number-line-requires : tie.Need-number-line-requires

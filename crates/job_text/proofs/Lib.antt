@@ -1,0 +1,10 @@
+pub mod Table
+pub mod Pad
+pub mod Text
+pub mod Values
+pub mod Needs
+pub mod Lines
+pub mod Heads
+pub mod Bodies
+pub mod Jobs
+pub mod Puts

@@ -27,9 +27,10 @@ put-none out at = record { cells = refl; next = refl }
 
 pub put-both : {out mid out' : List ℕ} {at m r : ℕ} {a b : List ℕ} → Put out mid at a m → Put mid out' m b r → Put out out' at (a ++ b) r
 put-both {out} {mid} {out'} {at} {m} {r} {a} {b} p q =
-    record
-    { cells = q .cells ∙ rw (p .cells, p .next) (sets-append out at a b)
-    ; next = omega (arith, p .next, q .next, length-append a b) }
+    record {
+      cells = q .cells ∙ rw (p .cells, p .next) (sets-append out at a b);
+      next = omega (arith, p .next, q .next, length-append a b);
+    }
 
 -- a byte: written where there is room, and counted
 pub put-in : (out : List ℕ) (at b : ℕ) → Put out (set out at b) at (b ∷ []) (at + 1)
@@ -58,13 +59,19 @@ clear-none out from = let e : from - from ≡ 0 = omega arith in rw e (sym (take
 
 pub clear-length : (out : List ℕ) (from i : ℕ) → from ≤ i → i ≤ length out → length (cleared out from i) ≡ length out
 clear-length out from i l h =
-    omega (arith, length-append (take from out) (replicate (i - from) 0 ++ drop i out), length-append (replicate (i - from) 0) (drop i out),
-      length-take-le from out (omega arith), length-replicate {A = ℕ} (i - from) 0, length-drop i out)
+    omega (
+      arith,
+      length-append (take from out) (replicate (i - from) 0 ++ drop i out),
+      length-append (replicate (i - from) 0) (drop i out),
+      length-take-le from out (omega arith),
+      length-replicate {A = ℕ} (i - from) 0,
+      length-drop i out,
+    )
 
 pub clear-more : (out : List ℕ) (from i : ℕ) → from ≤ i → i < length out → set (cleared out from i) i 0 ≡ cleared out from (i + 1)
 clear-more out from i l h =
     let n : length (take from out ++ replicate (i - from) 0) ≡ i =
-        omega (arith, length-append (take from out) (replicate (i - from) 0), length-take-le from out (omega arith), length-replicate {A = ℕ} (i - from) 0) in
+    omega (arith, length-append (take from out) (replicate (i - from) 0), length-take-le from out (omega arith), length-replicate {A = ℕ} (i - from) 0) in
     let q : i + 1 - from ≡ i - from + 1 = omega arith in
     rw (drop-cons out i 0 h, ← append-assoc (take from out) (replicate (i - from) 0) (getD out i 0 ∷ drop (suc i) out))
     (set-at (take from out ++ replicate (i - from) 0) (getD out i 0) (drop (suc i) out) 0 i n
@@ -112,8 +119,8 @@ digits-few zero (suc k) n l = rw (one (suc k) n (omega (arith, l))) (omega arith
 digits-few (suc d) (suc k) n l =
     below n 10 (λ s. rw (one (suc k) n s) (omega arith))
     (λ s.
-      let h : n / 10 < 10 ^ suc d = omega (arith, pow-suc 10 (suc d)) in
-      omega (arith, ap length (more k n s), length-append (decimalIn k (n / 10)) ((48 + n % 10) ∷ []), digits-few d k (n / 10) h))
+    let h : n / 10 < 10 ^ suc d = omega (arith, pow-suc 10 (suc d)) in
+    omega (arith, ap length (more k n s), length-append (decimalIn k (n / 10)) ((48 + n % 10) ∷ []), digits-few d k (n / 10) h))
 
 pub decimal-few : (n : ℕ) → n < 2 ^ 32 → length (decimal n) ≤ 10
 decimal-few n l = digits-few 9 n n (omega arith)

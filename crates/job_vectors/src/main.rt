@@ -75,6 +75,10 @@ fn print_reading(text: &[u8]) {
     print(b"\n");
 }
 
+fn wide(byte: u8) -> usize {
+    byte as usize
+}
+
 // The next text's length, or the end of the input.
 enum Next {
     Length(usize),
@@ -93,7 +97,7 @@ fn next_length() -> Next {
         if byte[0] == b'\n' {
             return Next::Length(length);
         }
-        length = (length * 10 + byte[0] as usize % 16) % 10000000;
+        length = (length * 10 + wide(byte[0]) % 16) % 10000000;
         i += 1;
     }
     Next::End

@@ -1,0 +1,32 @@
+use borrow.Author.Needs.{needs}
+use Rattle.job_text.proofs.printer.put_listed.Statement.{statement}
+use Rattle.job_text.proofs.printer.put_listed.Tie as tie
+use Rattle.job_text.proofs.printer.put_listed.Reads as reads
+use Rattle.job_text.proofs.printer.put_listed.Lts as lts
+use Rattle.job_text.proofs.printer.put.Reads as put-reads
+use Rattle.job_text.proofs.printer.put_list.Reads as put-list-reads
+use Rattle.job_text.proofs.printer.put_word.Reads as put-word-reads
+
+-- src/printer.rt:100:9
+put-word-requires : tie.Need-put-word-requires
+put-word-requires c κs = search needs
+
+-- src/printer.rt:101:9
+put-list-requires : tie.Need-put-list-requires
+put-list-requires c κs = search needs
+
+-- src/printer.rt:102:5
+put-requires : tie.Need-put-requires
+put-requires c κs = ?
+
+-- src/printer.rt:96:1
+same-length : tie.Need-same-length
+same-length c = search needs
+
+-- src/printer.rt:96:1
+returns : tie.Need-returns
+returns c = ?
+
+pub put-listed-spec : {M : Type 1} → statement M
+put-listed-spec =
+    tie.close (tie.spec put-word-requires put-list-requires put-requires same-length returns)

@@ -7,7 +7,7 @@
  *
  * Everything is lent by the caller: nothing is allocated, nothing is kept between calls, and calls on different buffers may run
  * at the same time. No input is undefined as long as each pointer is good for its count of cells and no lent output overlaps
- * another buffer of the same call. A count may be 0.
+ * another buffer of the same call. A count may be 0; its pointer is then not followed.
  *
  * Link with target/staticlib/libmukhadero.a (made by `rt staticlib mukhadero`).
  */

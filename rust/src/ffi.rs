@@ -65,6 +65,7 @@ extern "C" {
 }
 
 /// Judges a table; the answer in plain numbers.
+#[rustfmt::skip]
 pub fn judge(table: &Table, condition: &Condition, room: &mut [u32], scratch: &mut [u32]) -> Answer {
     let Table { states: n, start, from, to, marks } = *table;
     // Safety: each pointer comes with the length of its own slice; room and scratch are `&mut`, so they overlap nothing.
@@ -87,6 +88,7 @@ pub fn judge(table: &Table, condition: &Condition, room: &mut [u32], scratch: &m
 }
 
 /// Translates a table; the answer in plain numbers.
+#[rustfmt::skip]
 pub fn one_mark(
     table: &Table,
     k: u32,

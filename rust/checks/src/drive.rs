@@ -81,8 +81,11 @@ fn any_case(random: &mut Random) -> Case {
         500..=699 => (8, 10),
         _ => (6, 4),
     };
-    let mut case =
-        if random.chance(60) { families::any_scattered(states, marks, random) } else { families::any_structured(states, marks, random) };
+    let mut case = if random.chance(60) {
+        families::any_scattered(states, marks, random)
+    } else {
+        families::any_structured(states, marks, random)
+    };
     // longer buffers than needed: zeros must go to their own end
     case.room += random.pick(&[0, 0, 1, 7]);
     case.scratch += random.pick(&[0, 0, 1, 40]);
@@ -104,7 +107,7 @@ fn expected(case: &Case, random: &mut Random) -> Result<(Expected, &'static str)
         Condition::Streett { pairs } => 1u64 << pairs,
         _ => 8,
     };
-    let (expected, by) = if n * m << borne.min(m).min(20) <= 1_000_000 {
+    let (expected, by) = if (n * m) << borne.min(m).min(20) <= 1_000_000 {
         (oracle::by_marks_collected(case), "marks collected")
     } else if goals * n * m <= 20_000_000 {
         (oracle::by_reachability(case), "reachability")

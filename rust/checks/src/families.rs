@@ -93,7 +93,7 @@ pub fn small_parts(states: u32, edges: u32, k: u32, accepted: bool, random: &mut
         for s in 0..size {
             list.push((first + s, first + (s + 1) % size, if s == 0 { allowed } else { 0 }));
             for _ in 2..each {
-                list.push((first + s, first + random.below(size), allowed & random.next() as u32));
+                list.push((first + s, first + random.below(size), allowed & random.word() as u32));
             }
         }
         if !last {
@@ -152,7 +152,7 @@ pub fn rabin_last(states: u32, edges: u32, accepted: bool, random: &mut Random) 
     while (list.len() as u32) < edges {
         let s = random.below(states);
         let t = random.within(s, states - 1);
-        let needed = random.next() as u32 & 0xEEEE_EEEE & !(last[0] | last[1] | last[2]);
+        let needed = random.word() as u32 & 0xEEEE_EEEE & !(last[0] | last[1] | last[2]);
         list.push((s, t, if s == t { forbidden } else { needed }));
     }
     for mark in &last[..if accepted { 3 } else { 2 }] {
@@ -185,7 +185,7 @@ pub fn unreachable_accepted(states: u32, edges: u32, k: u32, random: &mut Random
     }
     while (list.len() as u32) < edges {
         let s = random.below(states);
-        let marks = random.next() as u32 & all;
+        let marks = random.word() as u32 & all;
         list.push(if s < half { (s, random.below(half), marks & !1) } else { (s, random.below(states), marks) });
     }
     Case::new("unreachable accepted part", states, random.below(half), list, Condition::Buchi { marks: k })

@@ -1,7 +1,7 @@
 //! One case through one judge: every promise of document 01 about the answer and the lent cells is looked at.
 
 use crate::acceptance;
-use crate::case::Case;
+use crate::case::{Case, Edge};
 use crate::judges::Judge;
 use crate::lent::{JudgeLoan, Lent, TranslationLoan};
 use crate::oracle::{self, Expected};
@@ -68,7 +68,10 @@ fn demand(held: bool, promise: Promise, seen: impl FnOnce() -> String) -> Result
 pub fn check_judge(judge: &dyn Judge, case: &Case, expected: Expected, random: &mut Random) -> Result<Answer, Fault> {
     let mut loan = JudgeLoan::new(case, random);
     let answer = judge.judge(case, &mut loan);
-    check_lent(&[("from", &loan.from), ("to", &loan.to), ("marks", &loan.marks)], &[("room", &loan.room), ("scratch", &loan.scratch)])?;
+    check_lent(
+        &[("from", &loan.from), ("to", &loan.to), ("marks", &loan.marks)],
+        &[("room", &loan.room), ("scratch", &loan.scratch)],
+    )?;
     let (verdict, number, place) = match expected {
         Expected::Refused { number, place } => (ffi::REFUSED, number, place),
         Expected::Empty => (ffi::EMPTY, 0, 0),
@@ -134,7 +137,9 @@ fn check_lasso(case: &Case, answer: &Answer, room: &[u32]) -> Result<(), Fault> 
     let end = walk(case, turn, cycle)?;
     demand(end == turn, Promise::Lasso, || format!("the cycle leads from {turn} to {end}"))?;
     let union = cycle.iter().fold(0, |union, &e| union | case.marks[e as usize]);
-    demand(acceptance::accepted(&case.condition, union), Promise::Lasso, || format!("the cycle bears {union:08x}: not accepted"))?;
+    demand(acceptance::accepted(&case.condition, union), Promise::Lasso, || {
+        format!("the cycle bears {union:08x}: not accepted")
+    })?;
     if let Condition::Rabin { pairs, ref needs } = case.condition {
         let met = acceptance::meets_pair(pairs, needs, answer.pair, union);
         demand(met, Promise::Pair, || format!("the cycle bears {union:08x}: pair {} is not met", answer.pair))?;
@@ -178,7 +183,7 @@ pub fn check_one_mark(judge: &dyn Judge, case: &Case, k: u32, outputs: [usize; 3
     let levels = if k == 0 { 1 } else { k };
     let counts = (case.states * levels, edges.len() as u32, case.start * levels);
     demand((made.states, made.edges, made.start) == counts, Promise::Counts, || format!("{made:?}, expected {counts:?}"))?;
-    let columns: [fn(&(u32, u32, u32)) -> u32; 3] = [|edge| edge.0, |edge| edge.1, |edge| edge.2];
+    let columns: [fn(&Edge) -> u32; 3] = [|edge| edge.0, |edge| edge.1, |edge| edge.2];
     for ((name, lent), column) in written.into_iter().zip(columns) {
         for (i, edge) in edges.iter().enumerate() {
             let (cell, right) = (lent.part()[i], column(edge));
@@ -191,7 +196,7 @@ pub fn check_one_mark(judge: &dyn Judge, case: &Case, k: u32, outputs: [usize; 3
 }
 
 /// The judge says the same of a table under Büchi k and of its translation under Büchi 1.
-fn check_same_verdict(judge: &dyn Judge, case: &Case, k: u32, edges: Vec<(u32, u32, u32)>, random: &mut Random) -> Result<(), Fault> {
+fn check_same_verdict(judge: &dyn Judge, case: &Case, k: u32, edges: Vec<Edge>, random: &mut Random) -> Result<(), Fault> {
     let levels = if k == 0 { 1 } else { k };
     let plain_edges = (0..case.edges()).map(|e| (case.from[e], case.to[e], case.marks[e])).collect();
     let source = Case::new(&case.origin, case.states, case.start, plain_edges, Condition::Buchi { marks: k });

@@ -15,10 +15,8 @@ pub fn of(case: &Case, condition: &Condition) -> String {
         }
     };
     let edges = case.from.len().min(case.to.len()).min(case.marks.len());
-    let mut text = format!(
-        "states={}\nstart={}\nkind={kind}\ncount={count}\nneed={need}\nedges={edges}\n",
-        case.states, case.start
-    );
+    let mut text =
+        format!("states={}\nstart={}\nkind={kind}\ncount={count}\nneed={need}\nedges={edges}\n", case.states, case.start);
     for e in 0..edges {
         text += &format!("edge={},{},{:08x}\n", case.from[e], case.to[e], case.marks[e]);
     }

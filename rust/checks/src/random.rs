@@ -10,10 +10,10 @@ impl Random {
     /// A generator of its own for table `number` of a run, so that one table can be made again without those before it.
     pub fn of_table(seed: u64, number: u64) -> Self {
         let mut random = Random(seed ^ number.wrapping_mul(0xD134_2543_DE82_EF95));
-        Random(random.next())
+        Random(random.word())
     }
 
-    pub fn next(&mut self) -> u64 {
+    pub fn word(&mut self) -> u64 {
         self.0 = self.0.wrapping_add(0x9E37_79B9_7F4A_7C15);
         let mut z = self.0;
         z = (z ^ (z >> 30)).wrapping_mul(0xBF58_476D_1CE4_E5B9);
@@ -23,7 +23,7 @@ impl Random {
 
     /// A number below `bound`, which is not 0.
     pub fn below(&mut self, bound: u32) -> u32 {
-        ((self.next() >> 32) * bound as u64 >> 32) as u32
+        (((self.word() >> 32) * bound as u64) >> 32) as u32
     }
 
     /// A number from `low` to `high`, both included.
@@ -42,6 +42,6 @@ impl Random {
 
     /// A word that is not 0.
     pub fn junk(&mut self) -> u32 {
-        self.next() as u32 | 1 << self.below(32)
+        self.word() as u32 | 1 << self.below(32)
     }
 }

@@ -277,9 +277,8 @@ fn one_dirty_room_cell() {
 
 #[test]
 fn a_refusal_that_writes() {
-    let room: SpoilAnswer = |_, loan, answer| {
-        loan.room.part_mut().last_mut().filter(|_| answer.verdict == REFUSED).map(|cell| *cell ^= 1).is_some()
-    };
+    let room: SpoilAnswer =
+        |_, loan, answer| loan.room.part_mut().last_mut().filter(|_| answer.verdict == REFUSED).map(|cell| *cell ^= 1).is_some();
     let scratch: SpoilAnswer = |_, loan, answer| {
         loan.scratch.part_mut().first_mut().filter(|_| answer.verdict == REFUSED).map(|word| *word ^= 1).is_some()
     };
@@ -359,9 +358,8 @@ fn a_translation_that_is_refused_wrongly() {
         table.place += (table.number != 0) as u32;
         table.number != 0
     };
-    let writes: SpoilTable = |_, loan, table| {
-        loan.out_marks.part_mut().first_mut().filter(|_| table.number != 0).map(|cell| *cell ^= 1).is_some()
-    };
+    let writes: SpoilTable =
+        |_, loan, table| loan.out_marks.part_mut().first_mut().filter(|_| table.number != 0).map(|cell| *cell ^= 1).is_some();
     assert_table_caught(shifted, &[Promise::Place]);
     assert_table_caught(writes, &[Promise::Refusal]);
 }

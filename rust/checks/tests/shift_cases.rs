@@ -114,7 +114,8 @@ fn edges_of_the_limits() {
 #[test]
 fn edges_of_the_translation() {
     let random = &mut Random::new(5);
-    let mut number = |case: &Case, k: u32, output: usize| harness::check_one_mark(&Archive, case, k, [output; 3], random).unwrap();
+    let mut number =
+        |case: &Case, k: u32, output: usize| harness::check_one_mark(&Archive, case, k, [output; 3], random).unwrap();
     assert_eq!(number(&bare(2048, 0, Buchi { marks: 0 }), 2, 0), 0);
     assert_eq!(number(&bare(2049, 0, Buchi { marks: 0 }), 2, 0), 10);
     let most = Case::new("most edges", 1, 0, vec![(0, 0, 0); 16384], Buchi { marks: 0 });

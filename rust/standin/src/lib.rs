@@ -32,57 +32,73 @@ fn answer(verdict: Verdict) -> Answer {
     }
 }
 
-/// The five parameters by which each function takes a table.
+/// A lent slice; with a count of 0 the pointer is not looked at.
+unsafe fn lent<'a>(cells: *const u32, count: usize) -> &'a [u32] {
+    if count == 0 {
+        &[]
+    } else {
+        from_raw_parts(cells, count)
+    }
+}
+
+/// A lent slice to be written.
+unsafe fn lent_mut<'a>(cells: *mut u32, count: usize) -> &'a mut [u32] {
+    if count == 0 {
+        &mut []
+    } else {
+        from_raw_parts_mut(cells, count)
+    }
+}
+
+/// The parameters by which each function takes a table.
 macro_rules! table {
     ($n:ident, $start:ident, $from:ident, $from_len:ident, $to:ident, $to_len:ident, $marks:ident, $marks_len:ident) => {
-        Table {
-            states: $n,
-            start: $start,
-            from: from_raw_parts($from, $from_len),
-            to: from_raw_parts($to, $to_len),
-            marks: from_raw_parts($marks, $marks_len),
-        }
+        Table { states: $n, start: $start, from: lent($from, $from_len), to: lent($to, $to_len), marks: lent($marks, $marks_len) }
     };
 }
 
 /// # Safety
 /// Each pointer is good for its count of cells; lent outputs overlap nothing.
+#[rustfmt::skip]
 #[no_mangle]
 pub unsafe extern "C" fn mukhadero_judge_buchi(
     n: u32, start: u32, from: *const u32, from_len: usize, to: *const u32, to_len: usize, marks: *const u32, marks_len: usize,
     k: u32, room: *mut u32, room_len: usize, scratch: *mut u32, scratch_len: usize,
 ) -> Answer {
     let table = table!(n, start, from, from_len, to, to_len, marks, marks_len);
-    let room = from_raw_parts_mut(room, room_len);
-    answer(plain::judge(&table, &Condition::Buchi(k), room, from_raw_parts_mut(scratch, scratch_len)))
+    let room = lent_mut(room, room_len);
+    answer(plain::judge(&table, &Condition::Buchi(k), room, lent_mut(scratch, scratch_len)))
 }
 
 /// # Safety
 /// As above.
+#[rustfmt::skip]
 #[no_mangle]
 pub unsafe extern "C" fn mukhadero_judge_streett(
     n: u32, start: u32, from: *const u32, from_len: usize, to: *const u32, to_len: usize, marks: *const u32, marks_len: usize,
     p: u32, room: *mut u32, room_len: usize, scratch: *mut u32, scratch_len: usize,
 ) -> Answer {
     let table = table!(n, start, from, from_len, to, to_len, marks, marks_len);
-    let room = from_raw_parts_mut(room, room_len);
-    answer(plain::judge(&table, &Condition::Streett(p), room, from_raw_parts_mut(scratch, scratch_len)))
+    let room = lent_mut(room, room_len);
+    answer(plain::judge(&table, &Condition::Streett(p), room, lent_mut(scratch, scratch_len)))
 }
 
 /// # Safety
 /// As above; `needs` is good for eight cells.
+#[rustfmt::skip]
 #[no_mangle]
 pub unsafe extern "C" fn mukhadero_judge_rabin(
     n: u32, start: u32, from: *const u32, from_len: usize, to: *const u32, to_len: usize, marks: *const u32, marks_len: usize,
     p: u32, needs: *const [u32; 8], room: *mut u32, room_len: usize, scratch: *mut u32, scratch_len: usize,
 ) -> Answer {
     let table = table!(n, start, from, from_len, to, to_len, marks, marks_len);
-    let room = from_raw_parts_mut(room, room_len);
-    answer(plain::judge(&table, &Condition::Rabin(p, *needs), room, from_raw_parts_mut(scratch, scratch_len)))
+    let room = lent_mut(room, room_len);
+    answer(plain::judge(&table, &Condition::Rabin(p, *needs), room, lent_mut(scratch, scratch_len)))
 }
 
 /// # Safety
 /// As above.
+#[rustfmt::skip]
 #[no_mangle]
 pub unsafe extern "C" fn mukhadero_one_mark(
     n: u32, start: u32, from: *const u32, from_len: usize, to: *const u32, to_len: usize, marks: *const u32, marks_len: usize,
@@ -92,9 +108,9 @@ pub unsafe extern "C" fn mukhadero_one_mark(
     let made = plain::one_mark(
         &table,
         k,
-        from_raw_parts_mut(out_from, out_from_len),
-        from_raw_parts_mut(out_to, out_to_len),
-        from_raw_parts_mut(out_marks, out_marks_len),
+        lent_mut(out_from, out_from_len),
+        lent_mut(out_to, out_to_len),
+        lent_mut(out_marks, out_marks_len),
     );
     match made {
         Translated::Made { states, edges, start } => TranslatedTable { number: 0, place: 0, states, edges, start },

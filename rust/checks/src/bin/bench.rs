@@ -22,7 +22,9 @@ type Make = fn(edges: u32, random: &mut Random) -> Case;
 /// Each family with the tables it gives for a number of edges.
 const FAMILIES: &[(&str, Make)] = &[
     ("scattered, Büchi 2", |m, random| families::scattered(m / 8, m, Condition::Buchi { marks: 2 }, 10, random)),
-    ("scattered, sparse, Büchi 3", |m, random| families::scattered(m.div_ceil(2).min(4096), m, Condition::Buchi { marks: 3 }, 2, random)),
+    ("scattered, sparse, Büchi 3", |m, random| {
+        families::scattered(m.div_ceil(2).min(4096), m, Condition::Buchi { marks: 3 }, 2, random)
+    }),
     ("scattered, Streett 4", |m, random| families::scattered(m / 8, m, Condition::Streett { pairs: 4 }, 10, random)),
     ("scattered, Rabin 2,2,2,2", |m, random| {
         families::scattered(m / 8, m, Condition::Rabin { pairs: 4, needs: [2, 2, 2, 2, 0, 0, 0, 0] }, 10, random)

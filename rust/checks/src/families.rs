@@ -45,6 +45,13 @@ pub fn scattered(states: u32, edges: u32, condition: Condition, percent: u32, ra
     Case::new("scattered", states, start, edges, condition)
 }
 
+/// About as many edges as there are pairs of states.
+pub fn dense(states: u32, condition: Condition, percent: u32, random: &mut Random) -> Case {
+    let mut case = scattered(states, (states * states).min(32768), condition, percent, random);
+    case.origin = "dense".to_string();
+    case
+}
+
 /// A path over all states closed into one cycle; further edges lead backwards. Each mark of Büchi k stands on one edge; if `short`,
 /// the last mark stands on none.
 pub fn long_cycle(states: u32, edges: u32, k: u32, short: bool, random: &mut Random) -> Case {
@@ -218,7 +225,7 @@ pub fn any_structured(most_states: u32, most_marks: u32, random: &mut Random) ->
     let edges = random.within(0, 4 * states);
     let coin = random.chance(50);
     let k = random.within(1, most_marks);
-    match random.below(10) {
+    match random.below(11) {
         0 => long_cycle(states, edges, k, coin, random),
         1 => {
             let condition = any_condition(most_marks, random);
@@ -234,6 +241,11 @@ pub fn any_structured(most_states: u32, most_marks: u32, random: &mut Random) ->
             lone_states(states, edges, condition, random)
         }
         8 => unreachable_accepted(states, edges, k, random),
+        9 => {
+            let condition = any_condition(most_marks, random);
+            let percent = random.pick(&[2, 10, 30]);
+            dense(states.min(180), condition, percent, random)
+        }
         _ => {
             let condition = any_condition(most_marks, random);
             let percent = random.pick(&[10, 30, 60]);

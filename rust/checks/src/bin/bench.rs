@@ -29,7 +29,7 @@ const FAMILIES: &[(&str, Make)] = &[
     ("scattered, Rabin 2,2,2,2", |m, random| {
         families::scattered(m / 8, m, Condition::Rabin { pairs: 4, needs: [2, 2, 2, 2, 0, 0, 0, 0] }, 10, random)
     }),
-    ("dense, Büchi 8", |m, random| families::scattered(m.isqrt(), m, Condition::Buchi { marks: 8 }, 5, random)),
+    ("dense, Büchi 8", |m, random| families::dense(m.isqrt(), Condition::Buchi { marks: 8 }, 5, random)),
     ("long cycle, m = n", |m, random| families::long_cycle(m / 8, m / 8, 4, false, random)),
     ("long cycle, edges back", |m, random| families::long_cycle(m / 8, m, 4, false, random)),
     ("long cycle, a mark short", |m, random| families::long_cycle(m / 8, m, 4, true, random)),

@@ -8,6 +8,7 @@ use crate::job_text;
 use crate::judges::{Judge, Plain};
 use crate::oracle::{self, Expected};
 use crate::random::Random;
+use crate::shrink;
 use mukhadero::Condition;
 use std::collections::BTreeMap;
 use std::fmt;
@@ -25,11 +26,24 @@ impl Tally {
     }
 }
 
-/// A broken promise, with the table that shows it.
+/// A broken promise, with the case that shows it.
 #[derive(Debug)]
 pub struct Failure {
     pub promise: Promise,
+    /// What was seen, and the table as job text.
     pub text: String,
+    pub case: Case,
+    /// The number of marks and the output lengths, where it was the translation that failed.
+    pub translation: Option<(u32, [usize; 3])>,
+}
+
+impl Failure {
+    fn new(what: &str, fault: Fault, case: &Case, translation: Option<(u32, [usize; 3])>) -> Self {
+        let condition = translation.map_or(case.condition, |(k, _)| Condition::Buchi { marks: k });
+        let outputs = translation.map_or(String::new(), |(_, outputs)| format!("; outputs {outputs:?}"));
+        let text = format!("{what}: {fault}\n{}{outputs}\n{}", job_text::beside(case), job_text::of(case, &condition));
+        Failure { promise: fault.promise, text, case: case.clone(), translation }
+    }
 }
 
 impl fmt::Display for Failure {
@@ -39,7 +53,7 @@ impl fmt::Display for Failure {
 }
 
 /// Runs tables `first..first + count` of a seed through the judge; stops at the first failure, which is described in full.
-pub fn run(judge: &dyn Judge, seed: u64, first: u64, count: u64) -> Result<Tally, Failure> {
+pub fn run(judge: &dyn Judge, seed: u64, first: u64, count: u64) -> Result<Tally, Box<Failure>> {
     let mut tally = Tally::default();
     for number in first..first + count {
         table(judge, seed, number, &mut tally)?;
@@ -48,25 +62,41 @@ pub fn run(judge: &dyn Judge, seed: u64, first: u64, count: u64) -> Result<Tally
 }
 
 /// Makes table `number` of a seed and puts it through the judge: judged under its condition, then translated.
-fn table(judge: &dyn Judge, seed: u64, number: u64, tally: &mut Tally) -> Result<(), Failure> {
+fn table(judge: &dyn Judge, seed: u64, number: u64, tally: &mut Tally) -> Result<(), Box<Failure>> {
     let mut random = Random::of_table(seed, number);
     let case = any_case(&mut random);
-    let failure = |fault: Fault, condition: &Condition| Failure {
-        promise: fault.promise,
-        text: format!("seed {seed}, table {number}: {fault}\n{}\n{}", job_text::beside(&case), job_text::of(&case, condition)),
-    };
+    let what = format!("seed {seed}, table {number}");
     tally.tables += 1;
 
-    let (expected, by) = expected(&case, &mut random).map_err(|fault| failure(fault, &case.condition))?;
+    let (expected, by) = expected(&case, &mut random);
     tally.count(format!("expected by {by}"));
     tally.count(format!("{} {}", kind(&case.condition), outcome(expected)));
-    harness::check_judge(judge, &case, expected, &mut random).map_err(|fault| failure(fault, &case.condition))?;
+    harness::check_judge(&Plain, &case, expected, &mut random)
+        .map_err(|fault| Failure::new(&format!("{what}, THE PLAIN JUDGE"), fault, &case, None))?;
+    harness::check_judge(judge, &case, expected, &mut random).map_err(|fault| Failure::new(&what, fault, &case, None))?;
 
     let (k, outputs) = any_translation(&case, &mut random);
     let number = harness::check_one_mark(judge, &case, k, outputs, &mut random)
-        .map_err(|fault| failure(fault, &Condition::Buchi { marks: k }))?;
+        .map_err(|fault| Failure::new(&what, fault, &case, Some((k, outputs))))?;
     tally.count(if number == 0 { "one mark made".into() } else { format!("one mark refused {number}") });
     Ok(())
+}
+
+/// A failure with fewer edges, by dropping edges as long as the same promise stays broken.
+pub fn smaller(judge: &dyn Judge, failure: &Failure) -> Failure {
+    let broken = |case: &Case| {
+        let mut random = Random::new(0);
+        match failure.translation {
+            None => harness::check_judge(judge, case, expected(case, &mut random).0, &mut random).err(),
+            Some((k, outputs)) => harness::check_one_mark(judge, case, k, outputs, &mut random).err(),
+        }
+        .filter(|fault| fault.promise == failure.promise)
+    };
+    let case = shrink::fewer_edges(&failure.case, |case| broken(case).is_some());
+    match broken(&case) {
+        Some(fault) => Failure::new("with fewer edges", fault, &case, failure.translation),
+        None => Failure::new("not seen again", Fault { promise: failure.promise, seen: "-".into() }, &case, failure.translation),
+    }
 }
 
 /// Mostly small tables, for which the oracle is the definition itself; some middling, few as large as is allowed.
@@ -95,11 +125,11 @@ fn any_case(random: &mut Random) -> Case {
     case
 }
 
-/// What a judge must say, and who says so: the definition where it is cheap enough, then reachability, then the plain judge. The
-/// plain judge is itself held against the others wherever they are asked.
-fn expected(case: &Case, random: &mut Random) -> Result<(Expected, &'static str), Fault> {
+/// What a judge must say, and who says so: the definition where it is cheap enough, then reachability, then the plain judge (which
+/// is itself held against the others wherever they are asked).
+fn expected(case: &Case, random: &mut Random) -> (Expected, &'static str) {
     if crate::acceptance::judge_refusal(case).is_some() {
-        return Ok((oracle::by_marks_collected(case), "document 01's rows"));
+        return (oracle::by_marks_collected(case), "document 01's rows");
     }
     let (n, m) = (case.states as u64, case.edges() as u64);
     let borne = case.marks.iter().fold(0, |union, marks| union | marks).count_ones() as u64;
@@ -107,15 +137,13 @@ fn expected(case: &Case, random: &mut Random) -> Result<(Expected, &'static str)
         Condition::Streett { pairs } => 1u64 << pairs,
         _ => 8,
     };
-    let (expected, by) = if (n * m) << borne.min(m).min(20) <= 1_000_000 {
+    if (n * m) << borne.min(m).min(20) <= 1_000_000 {
         (oracle::by_marks_collected(case), "marks collected")
     } else if goals * n * m <= 20_000_000 {
         (oracle::by_reachability(case), "reachability")
     } else {
         (verdict_of_plain(case, random), "the plain judge")
-    };
-    harness::check_judge(&Plain, case, expected, random)?;
-    Ok((expected, by))
+    }
 }
 
 /// The plain judge's word for it.

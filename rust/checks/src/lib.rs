@@ -6,6 +6,7 @@
 //! - [`families`] and [`damage`]: tables, structured, random and broken. [`random`]: numbers from fixed seeds.
 //! - [`lent`]: buffers between guard cells. [`judges`]: the judges that can be put under test.
 //! - [`harness`]: one table through one judge, every promise looked at. [`drive`]: many tables. [`job_text`]: a table in print.
+//!   [`shrink`]: a failing table with fewer edges.
 
 pub mod acceptance;
 pub mod case;
@@ -18,3 +19,4 @@ pub mod judges;
 pub mod lent;
 pub mod oracle;
 pub mod random;
+pub mod shrink;

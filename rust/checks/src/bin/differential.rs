@@ -1,5 +1,5 @@
 //! The longer run: `differential [TABLES [SEED [FIRST]]]`, 100,000 tables of seed 1 from table 0 if nothing is said. A failure
-//! names its seed and table, and `differential 1 SEED TABLE` makes that table again.
+//! names its seed and table, and `differential 1 SEED TABLE` makes that table again; it is printed as it is, and with fewer edges.
 
 use checks::drive;
 use checks::judges::Archive;
@@ -16,6 +16,7 @@ fn main() {
         }
         Err(failure) => {
             println!("{failure}");
+            println!("{}", drive::smaller(&Archive, &failure));
             std::process::exit(1);
         }
     }

@@ -64,26 +64,51 @@ extern "C" {
     ) -> TranslatedTable;
 }
 
-/// Judges a table; the answer in plain numbers.
+/// Judges a table under Büchi `k`; the answer in plain numbers.
 #[rustfmt::skip]
-pub fn judge(table: &Table, condition: &Condition, room: &mut [u32], scratch: &mut [u32]) -> Answer {
+pub fn judge_buchi(table: &Table, k: u32, room: &mut [u32], scratch: &mut [u32]) -> Answer {
     let Table { states: n, start, from, to, marks } = *table;
     // Safety: each pointer comes with the length of its own slice; room and scratch are `&mut`, so they overlap nothing.
     unsafe {
-        match *condition {
-            Condition::Buchi { marks: k } => mukhadero_judge_buchi(
-                n, start, from.as_ptr(), from.len(), to.as_ptr(), to.len(), marks.as_ptr(), marks.len(),
-                k, room.as_mut_ptr(), room.len(), scratch.as_mut_ptr(), scratch.len(),
-            ),
-            Condition::Streett { pairs: p } => mukhadero_judge_streett(
-                n, start, from.as_ptr(), from.len(), to.as_ptr(), to.len(), marks.as_ptr(), marks.len(),
-                p, room.as_mut_ptr(), room.len(), scratch.as_mut_ptr(), scratch.len(),
-            ),
-            Condition::Rabin { pairs: p, ref needs } => mukhadero_judge_rabin(
-                n, start, from.as_ptr(), from.len(), to.as_ptr(), to.len(), marks.as_ptr(), marks.len(),
-                p, needs, room.as_mut_ptr(), room.len(), scratch.as_mut_ptr(), scratch.len(),
-            ),
-        }
+        mukhadero_judge_buchi(
+            n, start, from.as_ptr(), from.len(), to.as_ptr(), to.len(), marks.as_ptr(), marks.len(),
+            k, room.as_mut_ptr(), room.len(), scratch.as_mut_ptr(), scratch.len(),
+        )
+    }
+}
+
+/// Judges a table under Streett `p`; the answer in plain numbers.
+#[rustfmt::skip]
+pub fn judge_streett(table: &Table, p: u32, room: &mut [u32], scratch: &mut [u32]) -> Answer {
+    let Table { states: n, start, from, to, marks } = *table;
+    // Safety: as above.
+    unsafe {
+        mukhadero_judge_streett(
+            n, start, from.as_ptr(), from.len(), to.as_ptr(), to.len(), marks.as_ptr(), marks.len(),
+            p, room.as_mut_ptr(), room.len(), scratch.as_mut_ptr(), scratch.len(),
+        )
+    }
+}
+
+/// Judges a table under Rabin `p` with these needs; the answer in plain numbers.
+#[rustfmt::skip]
+pub fn judge_rabin(table: &Table, p: u32, needs: &[u32; 8], room: &mut [u32], scratch: &mut [u32]) -> Answer {
+    let Table { states: n, start, from, to, marks } = *table;
+    // Safety: as above; the needs are eight cells.
+    unsafe {
+        mukhadero_judge_rabin(
+            n, start, from.as_ptr(), from.len(), to.as_ptr(), to.len(), marks.as_ptr(), marks.len(),
+            p, needs, room.as_mut_ptr(), room.len(), scratch.as_mut_ptr(), scratch.len(),
+        )
+    }
+}
+
+/// Judges a table; the answer in plain numbers.
+pub fn judge(table: &Table, condition: &Condition, room: &mut [u32], scratch: &mut [u32]) -> Answer {
+    match *condition {
+        Condition::Buchi { marks } => judge_buchi(table, marks, room, scratch),
+        Condition::Streett { pairs } => judge_streett(table, pairs, room, scratch),
+        Condition::Rabin { pairs, ref needs } => judge_rabin(table, pairs, needs, room, scratch),
     }
 }
 

@@ -6,6 +6,11 @@ use mukhadero::Condition;
 
 /// Applies one to three damages.
 pub fn damaged(mut case: Case, random: &mut Random) -> Case {
+    if random.chance(15) {
+        damage_one_edge(&mut case, random);
+        case.origin += ", several rows in one edge";
+        return case;
+    }
     let times = random.pick(&[1, 1, 1, 2, 2, 3]);
     for _ in 0..times {
         let row = random.within(1, 9);
@@ -39,19 +44,44 @@ pub fn damage(case: &mut Case, row: u32, random: &mut Random) {
         }
         7 => {
             if let Some(e) = any_edge(case, random) {
-                let used = match case.condition {
-                    Condition::Buchi { marks } => marks,
-                    Condition::Streett { pairs } => pairs.saturating_mul(2),
-                    Condition::Rabin { pairs, needs } => needs.iter().fold(pairs, |sum, &need| sum.saturating_add(need)),
-                };
-                if used < 32 {
-                    let unused = random.within(used, 31);
-                    case.marks[e] |= 1 << random.pick(&[used, used, unused, 31]);
-                }
+                case.marks[e] |= unused_mark(&case.condition, random);
             }
         }
         8 => case.room = shorter(case.room, random),
         _ => case.scratch = shorter(case.scratch, random),
+    }
+}
+
+/// A mark that the condition does not use, as a set; none if it uses all 32.
+fn unused_mark(condition: &Condition, random: &mut Random) -> u32 {
+    let used = match *condition {
+        Condition::Buchi { marks } => marks,
+        Condition::Streett { pairs } => pairs.saturating_mul(2),
+        Condition::Rabin { pairs, needs } => needs.iter().fold(pairs, |sum, &need| sum.saturating_add(need)),
+    };
+    if used >= 32 {
+        return 0;
+    }
+    let any = random.within(used, 31);
+    1 << random.pick(&[used, used, any, 31])
+}
+
+/// Some of the rows 5, 6 and 7 in one edge, which leaves where row 6 can be caused if there is such an edge.
+fn damage_one_edge(case: &mut Case, random: &mut Random) {
+    let can_fall: Vec<usize> = (1..case.edges()).filter(|&e| case.from[e - 1] > 0).collect();
+    if can_fall.is_empty() {
+        return;
+    }
+    let e = random.pick(&can_fall);
+    let rows = random.within(1, 7);
+    if rows & 1 != 0 {
+        case.to[e] = case.states.saturating_add(random.pick(&[0, 1, u32::MAX]));
+    }
+    if rows & 2 != 0 {
+        case.from[e] = random.below(case.from[e - 1]);
+    }
+    if rows & 4 != 0 {
+        case.marks[e] |= unused_mark(&case.condition, random);
     }
 }
 

@@ -15,7 +15,7 @@ use std::fmt;
 pub enum Promise {
     /// A cell outside what was lent is as before.
     Guards,
-    /// The tables are only read.
+    /// The tables, and the needs, are only read.
     Tables,
     /// Verdict (or whether a translation is made), number and place are those of document 01.
     Verdict,
@@ -69,7 +69,7 @@ pub fn check_judge(judge: &dyn Judge, case: &Case, expected: Expected, random: &
     let mut loan = JudgeLoan::new(case, random);
     let answer = judge.judge(case, &mut loan);
     check_lent(
-        &[("from", &loan.from), ("to", &loan.to), ("marks", &loan.marks)],
+        &[("from", &loan.from), ("to", &loan.to), ("marks", &loan.marks), ("needs", &loan.needs)],
         &[("room", &loan.room), ("scratch", &loan.scratch)],
     )?;
     let (verdict, number, place) = match expected {
@@ -101,7 +101,7 @@ pub fn check_judge(judge: &dyn Judge, case: &Case, expected: Expected, random: &
     Ok(answer)
 }
 
-/// The tables are as they were, and so are all guards.
+/// What is only read is as it was, and so are all guards.
 fn check_lent(read: &[(&str, &Lent)], written: &[(&str, &Lent)]) -> Result<(), Fault> {
     for (name, lent) in read.iter().chain(written) {
         demand(lent.guards_stand(), Promise::Guards, || format!("a cell beside {name} has changed"))?;

@@ -25,7 +25,15 @@ impl Judge for Archive {
             to: loan.to.part(),
             marks: loan.marks.part(),
         };
-        ffi::judge(&table, &case.condition, loan.room.part_mut(), loan.scratch.part_mut())
+        let (room, scratch) = (loan.room.part_mut(), loan.scratch.part_mut());
+        match case.condition {
+            Condition::Buchi { marks } => ffi::judge_buchi(&table, marks, room, scratch),
+            Condition::Streett { pairs } => ffi::judge_streett(&table, pairs, room, scratch),
+            Condition::Rabin { pairs, .. } => {
+                let needs = loan.needs.part().try_into().expect("eight needs are lent");
+                ffi::judge_rabin(&table, pairs, needs, room, scratch)
+            }
+        }
     }
 
     fn one_mark(&self, case: &Case, k: u32, loan: &mut TranslationLoan) -> TranslatedTable {

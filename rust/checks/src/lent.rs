@@ -2,6 +2,7 @@
 
 use crate::case::Case;
 use crate::random::Random;
+use mukhadero::Condition;
 
 const GUARD: usize = 16;
 
@@ -57,16 +58,23 @@ pub struct JudgeLoan {
     pub from: Lent,
     pub to: Lent,
     pub marks: Lent,
+    /// Rabin's eight needs; junk, and not lent, for other kinds.
+    pub needs: Lent,
     pub room: Lent,
     pub scratch: Lent,
 }
 
 impl JudgeLoan {
     pub fn new(case: &Case, random: &mut Random) -> Self {
+        let needs = match case.condition {
+            Condition::Rabin { needs, .. } => Lent::holding(needs.into_iter(), random),
+            _ => Lent::junk(8, random),
+        };
         JudgeLoan {
             from: Lent::holding(case.from.iter().copied(), random),
             to: Lent::holding(case.to.iter().copied(), random),
             marks: Lent::holding(case.marks.iter().copied(), random),
+            needs,
             room: Lent::junk(case.room, random),
             scratch: Lent::junk(case.scratch, random),
         }

@@ -289,7 +289,12 @@ fn a_refusal_that_writes() {
 #[test]
 fn a_write_into_a_table() {
     let spoil: SpoilAnswer = |_, loan, _| loan.marks.part_mut().last_mut().map(|cell| *cell ^= 1).is_some();
+    let needs: SpoilAnswer = |_, loan, _| {
+        loan.needs.part_mut()[7] ^= 1;
+        true
+    };
     assert_answer_caught(spoil, &[Promise::Tables]);
+    assert_answer_caught(needs, &[Promise::Tables]);
 }
 
 #[test]

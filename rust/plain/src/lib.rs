@@ -1,6 +1,10 @@
-//! The judge and the one-mark translation in plain Rust, unproved: the same algorithm as the proved judge (document DESIGN), with
-//! the same lent room and scratch and the same promises about them. It is what the benchmark compares with, and the second judge
-//! of the tests where tables are too large for the oracle.
+//! The judge and the one-mark translation in plain Rust, unproved: the same algorithm as the proved judge, with the same lent room
+//! and scratch and the same promises about them. It is what the benchmark compares with, and the second judge of the tests where
+//! tables are too large for the oracle.
+//!
+//! A search from the start finds what can be reached; a path-based depth-first search divides it into parts; a part is judged by the
+//! marks on its inner edges. For Streett a bad part is divided again without the left marks of its bad pairs: what is erased is a set
+//! of marks that goes down with the part, so no edge is marked as erased. The lasso is made of breadth-first legs.
 
 mod lasso;
 mod one_mark;

@@ -1,9 +1,11 @@
 //! The benchmark: the linked judge beside the plain one, in one run, on families of tables up to the limits. Prints a Markdown
 //! table for docs/BENCH.md. `bench` alone measures everything; `bench quick` only the smallest size, to see that it works.
 //!
-//! Each sample is a number of calls on the same lent buffers, so caches are warm; the two judges take turns, sample by sample, so
-//! that noise of the machine meets both. The figure is the median over the samples, added up over the tables of a row. Room and
-//! scratch are exactly as long as needed; each judge leaves them in order itself, and that is part of its time.
+//! A row's tables have the same number of edges together, whatever their size, and a sample is one pass over all of them: so small
+//! tables gain nothing from a processor that has learnt a single one by heart, and growth can be read off. The first passes warm
+//! caches and are not counted. Time is the thread's processor time. The two judges take turns, sample by sample, so that noise of
+//! the machine meets both; the figures are medians over the samples. Room and scratch are exactly as long as needed; each judge leaves them in order itself, and that is part
+//! of its time.
 
 use checks::case::Case;
 use checks::families;
@@ -11,11 +13,13 @@ use checks::judges::{plain_condition, plain_table};
 use checks::random::Random;
 use mukhadero::{ffi, Condition};
 use std::hint::black_box;
-use std::time::Instant;
 
 const SAMPLES: usize = 25;
-const TABLES: u64 = 4;
-const SAMPLE_NANOSECONDS: f64 = 400_000.0;
+/// For passes that take long.
+const FEWER_SAMPLES: usize = 9;
+const LONG: f64 = 10e6;
+/// Edges of all the tables of a row together.
+const EDGES_TOGETHER: u32 = 4 * 32_768;
 
 type Make = fn(edges: u32, random: &mut Random) -> Case;
 
@@ -48,59 +52,96 @@ const FAMILIES: &[(&str, Make)] = &[
 
 const SIZES: &[u32] = &[4_096, 8_192, 16_384, 32_768];
 
-/// What one judge showed on the tables of a row.
+/// What one judge showed on the tables of a row: time of a pass, runs among its answers, edges of their lassos.
 #[derive(Default)]
 struct Shown {
     nanoseconds: f64,
-    runs: u32,
+    runs: u64,
     lasso: u64,
 }
 
-/// Calls a judge; verdict number and lasso length come back.
-type Call<'a> = &'a mut dyn FnMut() -> (u32, u64);
+/// One pass over the tables: runs and edges of lassos.
+type Pass<'a> = &'a mut dyn FnMut() -> (u64, u64);
 
-fn time(call: Call, repeats: usize) -> f64 {
-    let begin = Instant::now();
-    for _ in 0..repeats {
-        black_box(call());
+/// Processor time of this thread, in nanoseconds: while others have the processor, it stands still.
+fn now() -> f64 {
+    #[repr(C)]
+    struct Time {
+        seconds: i64,
+        nanoseconds: i64,
     }
-    begin.elapsed().as_nanos() as f64 / repeats as f64
+    extern "C" {
+        fn clock_gettime(clock: i32, time: *mut Time) -> i32;
+    }
+    const THREAD_PROCESSOR_TIME: i32 = 3; // CLOCK_THREAD_CPUTIME_ID on Linux
+    let mut time = Time { seconds: 0, nanoseconds: 0 };
+    // Safety: the C library writes one `struct timespec`, which on 64-bit Linux is laid out as `Time`.
+    assert_eq!(unsafe { clock_gettime(THREAD_PROCESSOR_TIME, &mut time) }, 0);
+    time.seconds as f64 * 1e9 + time.nanoseconds as f64
 }
 
-/// Measures both judges on one table, taking turns.
-fn measure(case: &Case, shown: &mut [Shown; 2]) {
-    let (mut room, mut scratch) = (vec![0; case.room], vec![0; case.scratch]);
-    let (mut plain_room, mut plain_scratch) = (room.clone(), scratch.clone());
-    let table = case.table();
-    let condition = plain_condition(&case.condition);
-    let mut plain = || match plain::judge(black_box(&plain_table(&table)), &condition, &mut plain_room, &mut plain_scratch) {
-        plain::Verdict::Run { prefix, cycle, .. } => (ffi::RUN, (prefix + cycle) as u64),
-        plain::Verdict::Empty => (ffi::EMPTY, 0),
-        plain::Verdict::Refused { number, .. } => panic!("refused {number}"),
-    };
-    let mut linked = || {
-        let answer = ffi::judge(black_box(&table), &case.condition, &mut room, &mut scratch);
-        assert_eq!(answer.number, 0);
-        (answer.verdict, (answer.prefix_length + answer.cycle_length) as u64)
-    };
-    let calls: [Call; 2] = [&mut plain, &mut linked];
-    let mut samples = [Vec::new(), Vec::new()];
-    let mut repeats = [1; 2];
-    for i in 0..2 {
-        let (verdict, lasso) = calls[i]();
-        shown[i].runs += (verdict == ffi::RUN) as u32;
-        shown[i].lasso += lasso;
-        repeats[i] = (SAMPLE_NANOSECONDS / time(calls[i], 3)).ceil().max(1.0) as usize;
-    }
-    for _ in 0..SAMPLES {
-        for i in 0..2 {
-            samples[i].push(time(calls[i], repeats[i]));
+fn time(pass: Pass) -> f64 {
+    let begin = now();
+    black_box(pass());
+    now() - begin
+}
+
+fn median(mut samples: Vec<f64>) -> f64 {
+    samples.sort_by(f64::total_cmp);
+    samples[samples.len() / 2]
+}
+
+fn pass_of_plain(cases: &[Case], room: &mut [u32], scratch: &mut [u32]) -> (u64, u64) {
+    let (mut runs, mut lasso) = (0, 0);
+    for case in cases {
+        let (table, condition) = (plain_table(&case.table()), plain_condition(&case.condition));
+        match plain::judge(black_box(&table), &condition, &mut room[..case.room], &mut scratch[..case.scratch]) {
+            plain::Verdict::Run { prefix, cycle, .. } => (runs, lasso) = (runs + 1, lasso + (prefix + cycle) as u64),
+            plain::Verdict::Empty => {}
+            plain::Verdict::Refused { number, .. } => panic!("refused {number}"),
         }
     }
-    for i in 0..2 {
-        samples[i].sort_by(f64::total_cmp);
-        shown[i].nanoseconds += samples[i][SAMPLES / 2];
+    (runs, lasso)
+}
+
+fn pass_of_linked(cases: &[Case], room: &mut [u32], scratch: &mut [u32]) -> (u64, u64) {
+    let (mut runs, mut lasso) = (0, 0);
+    for case in cases {
+        let table = case.table();
+        let answer = ffi::judge(black_box(&table), &case.condition, &mut room[..case.room], &mut scratch[..case.scratch]);
+        assert_eq!(answer.number, 0);
+        runs += (answer.verdict == ffi::RUN) as u64;
+        lasso += (answer.prefix_length + answer.cycle_length) as u64;
     }
+    (runs, lasso)
+}
+
+/// Measures both judges on the tables of a row, taking turns: the plain one first. Also the median of the ratios of neighbouring
+/// samples, which a slow spell of the machine moves less than the ratio of the medians.
+fn measure(cases: &[Case]) -> ([Shown; 2], f64) {
+    let mut room = vec![0; cases.iter().map(|case| case.room).max().unwrap()];
+    let mut scratch = vec![0; cases.iter().map(|case| case.scratch).max().unwrap()];
+    let (mut plain_room, mut plain_scratch) = (room.clone(), scratch.clone());
+    let mut plain = || pass_of_plain(cases, &mut plain_room, &mut plain_scratch);
+    let mut linked = || pass_of_linked(cases, &mut room, &mut scratch);
+    let mut passes: [Pass; 2] = [&mut plain, &mut linked];
+    let mut shown = [Shown::default(), Shown::default()];
+    let mut longest: f64 = 0.0;
+    for (pass, shown) in passes.iter_mut().zip(&mut shown) {
+        (shown.runs, shown.lasso) = pass();
+        longest = longest.max(time(*pass));
+    }
+    let mut samples = [Vec::new(), Vec::new()];
+    for _ in 0..if longest < LONG { SAMPLES } else { FEWER_SAMPLES } {
+        for (pass, samples) in passes.iter_mut().zip(&mut samples) {
+            samples.push(time(*pass));
+        }
+    }
+    let ratio = median(samples[0].iter().zip(&samples[1]).map(|(plain, linked)| linked / plain).collect());
+    for (shown, samples) in shown.iter_mut().zip(samples) {
+        shown.nanoseconds = median(samples);
+    }
+    (shown, ratio)
 }
 
 fn main() {
@@ -110,45 +151,39 @@ fn main() {
     println!("|---|---:|---:|---|---:|---:|---:|---:|---:|---:|");
     let mut worst: (f64, String) = (0.0, String::new());
     for (name, make) in FAMILIES {
-        let mut before: Option<(f64, u64)> = None;
+        let mut before: Option<f64> = None;
         for &size in sizes {
-            let mut shown = [Shown::default(), Shown::default()];
-            let (mut states, mut edges) = (0u64, 0u64);
-            for number in 0..TABLES {
-                let case = make(size, &mut Random::of_table(6, number));
-                states += case.states as u64;
-                edges += case.edges() as u64;
-                measure(&case, &mut shown);
-            }
-            let [plain, linked] = &shown;
+            let tables = (EDGES_TOGETHER / size) as u64;
+            let cases: Vec<Case> = (0..tables).map(|number| make(size, &mut Random::of_table(6, number))).collect();
+            let states: u64 = cases.iter().map(|case| case.states as u64).sum();
+            let edges: u64 = cases.iter().map(|case| case.edges() as u64).sum();
+            let ([plain, linked], ratio) = measure(&cases);
             assert_eq!(plain.runs, linked.runs, "{name}: the verdicts differ");
-            let verdict = match linked.runs as u64 {
-                TABLES => "run".to_string(),
+            let verdict = match linked.runs {
                 0 => "empty".to_string(),
-                runs => format!("{runs} of {TABLES} run"),
+                runs if runs == tables => "run".to_string(),
+                runs => format!("{runs} of {tables} run"),
             };
-            let ratio = linked.nanoseconds / plain.nanoseconds;
-            // how the judge's time grew, for each doubling of the edges
-            let growth = before.map_or("-".to_string(), |(time, count)| {
-                format!("{:.2}", (linked.nanoseconds / time).powf(1.0 / (edges as f64 / count as f64).log2()))
-            });
+            // how the judge's time for one table grew against the row before, which has half the edges
+            let each = linked.nanoseconds / tables as f64;
+            let growth = before.map_or("-".to_string(), |time| format!("{:.2}", each / time));
             let lasso = |shown: &Shown| match shown.runs {
                 0 => "-".to_string(),
                 runs => format!("{:.1}", shown.lasso as f64 / runs as f64),
             };
             println!(
                 "| {name} | {} | {} | {verdict} | {:.2} | {:.2} | {ratio:.2} | {growth} | {} | {} |",
-                states / TABLES,
-                edges / TABLES,
+                states / tables,
+                edges / tables,
                 plain.nanoseconds / edges as f64,
                 linked.nanoseconds / edges as f64,
-                lasso(plain),
-                lasso(linked),
+                lasso(&plain),
+                lasso(&linked),
             );
             if ratio > worst.0 {
-                worst = (ratio, format!("{name}, m {}", edges / TABLES));
+                worst = (ratio, format!("{name}, m {}", edges / tables));
             }
-            before = Some((linked.nanoseconds, edges));
+            before = Some(each);
         }
     }
     println!("\nWorst ratio: {:.2} ({}).", worst.0, worst.1);

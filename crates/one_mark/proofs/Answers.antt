@@ -1,0 +1,136 @@
+-- What each answer of the translation follows from, and what follows from it. Assumes nothing.
+use mathlib.Core.Path.{_≡_, refl, sym, ap, _∙_, subst}
+use mathlib.Core.Bool.{Bool, true, false, false≢true}
+use mathlib.Core.List.{List, []}
+use Prim.Native.Nat.{ℕ, zero, suc, _*_, _≤_, _<_}
+use native.Mathlib.Nat.{mul-le-mul}
+use native.Mathlib.Omega.{arith}
+use lib.ListN.{length}
+use lib.Dec.{ltb}
+use borrow.Author.Tests.{ltb-false}
+use Rattle.marks.specs.Mark.{width}
+use Rattle.table.specs.declared.Acceptance.the-variants.{Buchi}
+use Rattle.table.specs.declared.Finding.{Finding}
+use Rattle.table.specs.declared.Finding.the-variants.{Sound, Refused as Faulty}
+use Rattle.table.specs.Table.{Table, lent}
+use Rattle.table.specs.Refusal.{refusal, edgeRefusal, pick, either, wrongStates, wrongEdges, wrongStart, wrongCondition, wrongEnd, wrongOrder, wrongMark, mostStates, mostEdges}
+use Rattle.table.proofs.Sound.{Fit, sound-fit, used-few}
+use Rattle.one_mark.specs.declared.Translation.{Translation}
+use Rattle.one_mark.specs.declared.Translation.the-variants.{Made, Refused}
+use Rattle.one_mark.specs.Climb.{levels, number}
+use Rattle.one_mark.specs.Outcome.{large, short, answer, numberOf}
+use Rattle.one_mark.specs.Writing.{Ladder}
+
+not-either : (a b : Bool) → either a b ≡ false → (a ≡ false) × (b ≡ false)
+not-either true b e = absurd (false≢true (sym e))
+not-either false b e = (refl, e)
+
+pub not-large : (states edges : ℕ) → large states edges ≡ false → states ≤ mostStates
+not-large states edges e = ltb-false mostStates states (not-either (ltb mostStates states) (ltb mostEdges edges) e .0)
+
+-- ---- the counts of a sound table
+
+module _ (n start k : ℕ) (from to marks : List ℕ) (sound : refusal (lent n start from to marks) (Buchi k) [] ≡ Sound) where
+  pub fit : Fit (lent n start from to marks) (Buchi k) []
+  fit = sound-fit n start from to marks (Buchi k) [] sound
+
+  few-marks : k ≤ width
+  few-marks = used-few (Buchi k) [] (fit .condition)
+
+  -- the products fit a word before row 10 is read
+  pub counts-fit : (K : ℕ) → K ≡ levels k → (n * K ≤ mostStates * width) × (length from * K ≤ mostEdges * width)
+  counts-fit K e =
+      let few : K ≤ width = omega (arith, few-marks) in
+      (mul-le-mul (fit .proper .few) few, mul-le-mul (fit .proper .few-edges) few)
+
+  pub ladder : (K : ℕ) → K ≡ levels k → n * levels k ≤ mostStates → Ladder n k K
+  ladder K e small = record { few = few-marks; all = e; small = rw e small }
+
+  pub start-below : start < n
+  start-below = fit .proper .start-below
+
+-- ---- each answer, from the tests that lead to it
+
+module _ (t : Table) (k a b c : ℕ) where
+  pub answer-faulty : (number place : ℕ) → refusal t (Buchi k) [] ≡ Faulty number place → Refused number place ≡ answer t k a b c
+  answer-faulty number place e = rw e
+
+  module _ (sound : refusal t (Buchi k) [] ≡ Sound) where
+    pub answer-large : large (t .states * levels k) (t .edges * levels k) ≡ true → Refused 10 0 ≡ answer t k a b c
+    answer-large e = rw (sound, e)
+
+    module _ (fits : large (t .states * levels k) (t .edges * levels k) ≡ false) where
+      pub answer-short : short (t .edges * levels k) a b c ≡ true → Refused 11 0 ≡ answer t k a b c
+      answer-short e = rw (sound, fits, e)
+
+      pub answer-made : short (t .edges * levels k) a b c ≡ false
+          → Made (t .states * levels k) (t .edges * levels k) (number k (t .start) 0) ≡ answer t k a b c
+      answer-made e = rw (sound, fits, e)
+
+-- ---- a refusal's number is not 0
+
+abbrev Numbered : Finding → Type 0
+Numbered Sound = Unit
+Numbered (Faulty number place) = 0 < number
+
+numbered-pick : (b : Bool) (f g : Finding) → Numbered f → Numbered g → Numbered (pick b f g)
+numbered-pick true f g x y = x
+numbered-pick false f g x y = y
+
+numbered-edges : (t : Table) (u e m : ℕ) → Numbered (edgeRefusal t u e m)
+numbered-edges t u e zero = tt
+numbered-edges t u e (suc m) =
+    numbered-pick (wrongEnd t e) (Faulty 5 e) _ (omega arith)
+    (numbered-pick (wrongOrder t e) (Faulty 6 e) _ (omega arith)
+    (numbered-pick (wrongMark t u e) (Faulty 7 e) _ (omega arith) (numbered-edges t u (suc e) m)))
+
+numbered : (t : Table) (k : ℕ) → Numbered (refusal t (Buchi k) [])
+numbered t k =
+    numbered-pick (wrongStates t) (Faulty 1 0) _ (omega arith)
+    (numbered-pick (wrongEdges t) (Faulty 2 0) _ (omega arith)
+    (numbered-pick (wrongStart t) (Faulty 3 0) _ (omega arith)
+    (numbered-pick (wrongCondition (Buchi k) []) (Faulty 4 0) _ (omega arith) (numbered-edges t k 0 (t .edges)))))
+
+-- ---- what the number 0 says of the input and of the answer
+
+pub record Granted (t : Table) (k a b c : ℕ) (r : Translation) : Type 0 where
+  pub sound : refusal t (Buchi k) [] ≡ Sound
+  pub few : t .states * levels k ≤ mostStates
+  pub few-edges : t .edges * levels k ≤ mostEdges
+  pub first-room : t .edges * levels k ≤ a
+  pub second-room : t .edges * levels k ≤ b
+  pub third-room : t .edges * levels k ≤ c
+  pub made : r ≡ Made (t .states * levels k) (t .edges * levels k) (number k (t .start) 0)
+
+module _ (t : Table) (k a b c : ℕ) (r : Translation) (answered : r ≡ answer t k a b c) (none : numberOf r ≡ 0) where
+  -- an answer with another number is none of these
+  other : {C : Type 0} (q : Translation) → q ≡ answer t k a b c → 0 < numberOf q → C
+  other q e l = absurd (omega (arith, ap numberOf (answered ∙ sym e)))
+
+  by-room : refusal t (Buchi k) [] ≡ Sound → large (t .states * levels k) (t .edges * levels k) ≡ false
+      → (s : Bool) → short (t .edges * levels k) a b c ≡ s → Granted t k a b c r
+  by-room q e true s = other (Refused 11 0) (answer-short t k a b c q e s) (omega arith)
+  by-room q e false s =
+      let counts = not-either (ltb mostStates (t .states * levels k)) _ e in
+      let one = not-either (ltb a (t .edges * levels k)) _ s in
+      let two = not-either (ltb b (t .edges * levels k)) _ (one .1) in
+      record {
+        sound = q;
+        few = ltb-false mostStates (t .states * levels k) (counts .0);
+        few-edges = ltb-false mostEdges (t .edges * levels k) (counts .1);
+        first-room = ltb-false a (t .edges * levels k) (one .0);
+        second-room = ltb-false b (t .edges * levels k) (two .0);
+        third-room = ltb-false c (t .edges * levels k) (two .1);
+        made = answered ∙ sym (answer-made t k a b c q e s);
+      }
+
+  by-size : refusal t (Buchi k) [] ≡ Sound → (l : Bool) → large (t .states * levels k) (t .edges * levels k) ≡ l → Granted t k a b c r
+  by-size q true e = other (Refused 10 0) (answer-large t k a b c q e) (omega arith)
+  by-size q false e = by-room q e (short (t .edges * levels k) a b c) refl
+
+  by-finding : (f : Finding) → refusal t (Buchi k) [] ≡ f → Granted t k a b c r
+  by-finding (Faulty number place) q = other (Refused number place) (answer-faulty t k a b c number place q) (subst Numbered q (numbered t k))
+  by-finding Sound q = by-size q (large (t .states * levels k) (t .edges * levels k)) refl
+
+  pub granted : Granted t k a b c r
+  granted = by-finding (refusal t (Buchi k) []) refl

@@ -1,0 +1,101 @@
+-- The theorems on the translation, for every input that is not refused; and two results allowed for one input are equal. Assumes nothing.
+use mathlib.Core.Path.{_≡_, refl, sym, ap, _∙_}
+use mathlib.Core.List.{List, _++_}
+use Prim.Native.Nat.{ℕ, _-_, _*_, _<_}
+use native.Mathlib.Omega.{arith}
+use lib.ListN.{length, take, replicate}
+use lib.Seq.{take-at}
+use Rattle.table.specs.Table.{Table, lent}
+use Rattle.table.specs.Refusal.{Proper}
+use Rattle.one_mark.specs.declared.Translation.{Translation}
+use Rattle.one_mark.specs.declared.Translation.the-variants.{Made, Refused}
+use Rattle.one_mark.specs.Climb.{levels}
+use Rattle.one_mark.specs.Translated.{translated, liftedFrom, liftedTo, liftedMarks}
+use Rattle.one_mark.specs.Outcome.{Outcome, answer, numberOf, statesOf, edgesOf, startOf}
+use Rattle.one_mark.specs.Faithful.{Positions, Faithful}
+use Rattle.one_mark.proofs.Accepted.{lent-again, translated-sound}
+use Rattle.one_mark.proofs.Answers.{fit, granted}
+use Rattle.one_mark.proofs.Correspond.{one-over, one-under}
+use Rattle.one_mark.proofs.Outcomes.{whole-length}
+use Rattle.one_mark.proofs.Position.{stands, cell-at, place-most, level-place, under-place}
+use Rattle.one_mark.proofs.Turns.{lasso-down, lasso-up}
+
+-- ---- two results that the contract allows for one input are equal
+
+pub record Same (r r' : Translation) (l a b l' a' b' : List ℕ) : Type 0 where
+  pub answers : r ≡ r'
+  pub from-lists : l ≡ l'
+  pub to-lists : a ≡ a'
+  pub marks-lists : b ≡ b'
+
+pub one-result : (t : Table) (k : ℕ) (l a b : List ℕ) (r r' : Translation) (l' a' b' l'' a'' b'' : List ℕ)
+    → Outcome t k l a b r l' a' b' → Outcome t k l a b r' l'' a'' b'' → Same r r' l' a' b' l'' a'' b''
+one-result t k l a b r r' l' a' b' l'' a'' b'' p q =
+    let e : r ≡ r' = p .answered ∙ sym (q .answered) in
+    record {
+      answers = e;
+      from-lists = p .from-held ∙ rw e (sym (q .from-held));
+      to-lists = p .to-held ∙ rw e (sym (q .to-held));
+      marks-lists = p .marks-held ∙ rw e (sym (q .marks-held));
+    }
+
+-- ---- the position rule
+
+pub positions : (t : Table) → Proper t → (k : ℕ) → Positions t k
+positions t proper k =
+    record {
+      edge = λ q l. stands t proper k q l .edge;
+      level = λ q l. stands t proper k q l .level;
+      from = λ q l. cell-at t proper k (liftedFrom t k) q l;
+      to = λ q l. cell-at t proper k (liftedTo t k) q l;
+      marks = λ q l. cell-at t proper k (liftedMarks t k) q l;
+      place-most = λ e j l h. place-most t proper k e j l h;
+      under-place = λ e j l h. under-place t proper k e j l h;
+      level-place = λ e j l h. level-place t proper k e j l h;
+      place-under = λ q l. stands t proper k q l .here;
+    }
+
+-- ---- a table that was made
+
+pub faithful : (n start : ℕ) (from to marks : List ℕ) (k a b c : ℕ) → numberOf (answer (lent n start from to marks) k a b c) ≡ 0
+    → Faithful (lent n start from to marks) k
+faithful n start from to marks k a b c none =
+    let t = lent n start from to marks in
+    let g = granted t k a b c (answer t k a b c) refl none in
+    let proper = fit n start k from to marks (g .sound) .proper in
+    record {
+      table = translated-sound t proper k (g .few) (g .few-edges);
+      positions = positions t proper k;
+      one-over = one-over t proper k;
+      one-under = one-under t proper k;
+      lasso-down = lasso-down t proper k;
+      lasso-up = lasso-up t proper k;
+    }
+
+-- ---- what the outputs hold
+
+-- the front of an output
+front : (made old l' : List ℕ) (edges : ℕ) → l' ≡ made ++ replicate (length old - length made) 0 → length made ≡ edges → take edges l' ≡ made
+front made old l' edges e long = ap (take edges) e ∙ take-at made (replicate (length old - length made) 0) edges long
+
+-- with the number 0, what they hold in front, lent again with the answered counts and start, is the translated table
+pub outputs-hold : (n start : ℕ) (from to marks : List ℕ) (k : ℕ) (l a b : List ℕ) (r : Translation) (l' a' b' : List ℕ)
+    → Outcome (lent n start from to marks) k l a b r l' a' b' → numberOf r ≡ 0
+    → lent (statesOf r) (startOf r) (take (edgesOf r) l') (take (edgesOf r) a') (take (edgesOf r) b') ≡ translated (lent n start from to marks) k
+outputs-hold n start from to marks k l a b r l' a' b' o none =
+    let t = lent n start from to marks in
+    let g = granted t k (length l) (length a) (length b) r (o .answered) none in
+    let proper = fit n start k from to marks (g .sound) .proper in
+    let m = t .edges * levels k in
+    rw (
+      g .made,
+      front (translated t k .from) l l' m (o .from-held ∙ rw (g .made)) (whole-length t proper k (liftedFrom t k)),
+      front (translated t k .to) a a' m (o .to-held ∙ rw (g .made)) (whole-length t proper k (liftedTo t k)),
+      front (translated t k .marks) b b' m (o .marks-held ∙ rw (g .made)) (whole-length t proper k (liftedMarks t k)),
+    ) (lent-again t proper k)
+
+-- with another number nothing was changed
+pub refused-untouched : (t : Table) (k : ℕ) (l a b : List ℕ) (r : Translation) (l' a' b' : List ℕ)
+    → Outcome t k l a b r l' a' b' → 0 < numberOf r → (l' ≡ l) × ((a' ≡ a) × (b' ≡ b))
+refused-untouched t k l a b (Made states edges start) l' a' b' o some = absurd (omega arith)
+refused-untouched t k l a b (Refused number place) l' a' b' o some = (o .from-held, (o .to-held, o .marks-held))

@@ -1,0 +1,16 @@
+pub mod Accepted
+pub mod Answers
+pub mod Climbs
+pub mod Correspond
+pub mod Faithful
+pub mod Laps
+pub mod Lists
+pub mod Numbers
+pub mod Order
+pub mod Outcomes
+pub mod Pigeon
+pub mod Position
+pub mod RowParts
+pub mod Shifts
+pub mod Turns
+pub mod Wrote

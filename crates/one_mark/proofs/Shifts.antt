@@ -1,0 +1,9 @@
+-- The fourteen shift cases: cases 1 to 13 are proved with the crate table, and the translation of table A computes. Assumes nothing.
+use mathlib.Core.Path.{refl}
+use Rattle.table.proofs.Shifts.{shift-cases}
+use Rattle.one_mark.specs.Climb.{reached, landing, bearing}
+use Rattle.one_mark.specs.Shifts.{FourteenCases}
+
+pub fourteen-cases : FourteenCases
+unfolding reached landing bearing
+fourteen-cases = record { cases-1-to-13 = shift-cases; case-14 = refl }

@@ -1,0 +1,92 @@
+-- What the translation answers and leaves in the lent outputs (document 01, "What comes back": "For the translation 1 to 7 in the same way, then
+-- 10, 11"). Assumes nothing.
+use mathlib.Core.Path.{_≡_}
+use mathlib.Core.Bool.{Bool, true, false}
+use mathlib.Core.List.{List, [], _++_}
+use Prim.Native.Nat.{ℕ, _-_, _*_}
+use lib.Dec.{ltb}
+use lib.ListN.{length, replicate}
+use Rattle.table.specs.declared.Acceptance.the-variants.{Buchi}
+use Rattle.table.specs.declared.Finding.{Finding}
+use Rattle.table.specs.declared.Finding.the-variants.{Sound, Refused as Faulty}
+use Rattle.table.specs.Table.{Table, lent}
+use Rattle.table.specs.Refusal.{refusal, either, mostStates, mostEdges, Proper}
+use Rattle.one_mark.specs.declared.Translation.{Translation}
+use Rattle.one_mark.specs.declared.Translation.the-variants.{Made, Refused}
+use Rattle.one_mark.specs.Climb.{levels, number}
+use Rattle.one_mark.specs.Translated.{translated}
+use Rattle.one_mark.specs.Writing.{Ladder, Room}
+
+-- row 10: a table to be made is above 4,096 states or 32,768 edges
+abbrev pub large : ℕ → ℕ → Bool
+large states edges = either (ltb mostStates states) (ltb mostEdges edges)
+
+-- row 11: a lent output, of the lengths a, b and c, is shorter than the translated edge count
+abbrev pub short : ℕ → ℕ → ℕ → ℕ → Bool
+short edges a b c = either (ltb a edges) (either (ltb b edges) (ltb c edges))
+
+abbrev pub first : Bool → Translation → Translation → Translation
+first true a b = a
+first false a b = b
+
+-- a refusal of rows 1 to 7 comes first
+abbrev pub unless : Finding → Translation → Translation
+unless Sound r = r
+unless (Faulty number place) r = Refused number place
+
+-- the first cause of rows 1 to 7, with k read as a Büchi count; then 10; then 11; then both counts and the new start
+abbrev pub answer : Table → ℕ → ℕ → ℕ → ℕ → Translation
+answer t k a b c =
+    unless (refusal t (Buchi k) [])
+    (first (large (t .states * levels k) (t .edges * levels k)) (Refused 10 0)
+    (first (short (t .edges * levels k) a b c) (Refused 11 0)
+    (Made (t .states * levels k) (t .edges * levels k) (number k (t .start) 0))))
+
+-- what a lent output holds: after a table was made its list and then zeros; after a refusal what it held
+abbrev pub held : Translation → List ℕ → List ℕ → List ℕ
+held (Made states edges start) made old = made ++ replicate (length old - length made) 0
+held (Refused number place) made old = old
+
+-- the promise of the translation: its answer, and the three outputs
+pub record Outcome (t : Table) (k : ℕ) (leaves arrives bears : List ℕ) (r : Translation) (leaves' arrives' bears' : List ℕ) : Type 0 where
+  pub answered : r ≡ answer t k (length leaves) (length arrives) (length bears)
+  pub from-held : leaves' ≡ held r (translated t k .from) leaves
+  pub to-held : arrives' ≡ held r (translated t k .to) arrives
+  pub marks-held : bears' ≡ held r (translated t k .marks) bears
+
+-- ---- between the functions: what the writing of a table that was not refused goes by, and what it leaves
+
+pub record Ready (n k K edges : ℕ) (from to marks leaves arrives bears : List ℕ) : Type 0 where
+  pub ladder : Ladder n k K
+  pub proper : Proper (lent n 0 from to marks)
+  pub count : edges ≡ length from * K
+  pub room : Room 0 edges leaves arrives bears
+
+-- the translated lists, then zeros
+pub record Filled (t : Table) (k : ℕ) (leaves arrives bears leaves' arrives' bears' : List ℕ) : Type 0 where
+  pub from-filled : leaves' ≡ translated t k .from ++ replicate (length leaves - length (translated t k .from)) 0
+  pub to-filled : arrives' ≡ translated t k .to ++ replicate (length arrives - length (translated t k .to)) 0
+  pub marks-filled : bears' ≡ translated t k .marks ++ replicate (length bears - length (translated t k .marks)) 0
+
+-- ---- document 01's number, place, counts and new start for each answer. The number is 0 exactly if a table was made (`Faithful.outputs-hold` and
+-- `Faithful.refused-untouched`, in proofs/, go by it)
+
+abbrev pub numberOf : Translation → ℕ
+numberOf (Made states edges start) = 0
+numberOf (Refused number place) = number
+
+abbrev pub placeOf : Translation → ℕ
+placeOf (Made states edges start) = 0
+placeOf (Refused number place) = place
+
+abbrev pub statesOf : Translation → ℕ
+statesOf (Made states edges start) = states
+statesOf (Refused number place) = 0
+
+abbrev pub edgesOf : Translation → ℕ
+edgesOf (Made states edges start) = edges
+edgesOf (Refused number place) = 0
+
+abbrev pub startOf : Translation → ℕ
+startOf (Made states edges start) = start
+startOf (Refused number place) = 0

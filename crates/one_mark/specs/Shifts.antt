@@ -1,0 +1,16 @@
+-- All fourteen shift cases (document 01, "Shift cases"), under a single statement: cases 1 to 13 with the crate table, and the translation.
+-- proofs/Shifts.antt proves it. Assumes nothing.
+use mathlib.Core.Path.{_≡_}
+use mathlib.Core.List.{[], _∷_}
+use Rattle.table.specs.Table.{Table, lent}
+use Rattle.table.specs.Shifts.{ShiftCases, tableA}
+use Rattle.one_mark.specs.Translated.{translated}
+
+-- 0>2{}, 1>3{}, 2>5{}, 3>5{}, 4>2{}, 5>2{0}
+abbrev pub translatedA : Table
+translatedA = lent 6 0 (0 ∷ 1 ∷ 2 ∷ 3 ∷ 4 ∷ 5 ∷ []) (2 ∷ 3 ∷ 5 ∷ 5 ∷ 2 ∷ 2 ∷ []) (0 ∷ 0 ∷ 0 ∷ 0 ∷ 0 ∷ 1 ∷ [])
+
+pub record FourteenCases : Type 0 where
+  pub cases-1-to-13 : ShiftCases
+  -- "A, k = 2, translated: 0>2{}, 1>3{}, 2>5{}, 3>5{}, 4>2{}, 5>2{0}"
+  pub case-14 : translated tableA 2 ≡ translatedA

@@ -1,0 +1,161 @@
+// Writes the translated edges: climbs, then the levels of a row, then the rows, then the whole table.
+// Relies on `table` for the rows. What the three outputs hold is in specs/Translated.antt, what each function asks in specs/Writing.antt.
+use marks::Marks;
+use table::row::run;
+ghost use mathlib.Core.Path.{_≡_};
+ghost use Prim.Native.Nat.{_+_, _*_, _≤_, _<_};
+ghost use lib.ListN.{length};
+ghost use Rattle.marks.specs.Mark.{width};
+ghost use Rattle.table.specs.Table.{lent};
+ghost use Rattle.table.specs.Refusal.{Proper};
+ghost use Rattle.one_mark.specs.Climb.{levels, number, reached, landing, bearing};
+ghost use Rattle.one_mark.specs.Writing.{Ladder, Room, RowAsked, LevelWritten, RowWritten, StatesWritten};
+
+// What all of a translation goes by: the number of states, the number k of marks and the number K of levels.
+pub(crate) struct Shape {
+    pub states: u32,
+    pub k: u32,
+    pub levels: u32,
+}
+
+// K: k, or 1 if k is 0.
+pub(crate) fn level_count(k: u32) -> u32
+    ensures { λ r. ⌜ r ≡ levels k ⌝ }
+{
+    if k == 0 {
+        return 1;
+    }
+    k
+}
+
+// The level that an edge with these marks reaches from this level, k at most: it climbs as many levels as it bears marks in a row.
+fn climb(marks: Marks, level: u32, k: u32) -> u32
+    requires { ⌜ k ≤ width ⌝ }
+    ensures { λ r. ⌜ r ≡ reached k marks level ⌝ }
+{
+    if k <= level {
+        return level;
+    }
+    let climbed = u32::trailing_zeros(!(marks >> level));
+    if k - level <= climbed {
+        return k;
+    }
+    level + climbed
+}
+
+// Where an edge lands: the level at which the translated edge arrives, and the marks that it bears.
+struct Landing {
+    level: u32,
+    marks: Marks,
+}
+
+fn land(marks: Marks, level: u32, k: u32) -> Landing
+    requires { ⌜ k ≤ width ⌝ }
+    ensures { λ r. ⌜ (r .level ≡ landing k marks level) × (r .marks ≡ bearing k marks level) ⌝ }
+{
+    let reached = climb(marks, level, k);
+    if reached < k {
+        return Landing {
+            level: reached,
+            marks: 0,
+        };
+    }
+    Landing { level: 0, marks: 1 }
+}
+
+// The number of a state at a level.
+pub(crate) fn number_of(state: u32, level: u32, shape: Shape) -> u32
+    requires { ⌜ Ladder (shape .states) (shape .k) (shape .levels) ⌝ }
+    requires { ⌜ (state < shape .states) × (level < shape .levels) ⌝ }
+    ensures { λ r. ⌜ r ≡ number (shape .k) state level ⌝ }
+{
+    state * shape.levels + level
+}
+
+// Writes the edges of a state's row, taken at one level, from place `at` on; answers with the place behind them.
+fn lift_level(
+    state: u32,
+    level: u32,
+    shape: Shape,
+    to: &[u32],
+    marks: &[Marks],
+    at: usize,
+    leaves: &mut [u32],
+    arrives: &mut [u32],
+    bears: &mut [Marks],
+) -> usize
+    requires { ⌜ Ladder (shape .states) (shape .k) (shape .levels) ⌝ }
+    requires { ⌜ level < shape .levels ⌝ }
+    requires { ⌜ RowAsked (shape .states) state (now to) (now marks) ⌝ }
+    requires { ⌜ Room at (length (now to)) (now leaves) (now arrives) (now bears) ⌝ }
+    ensures { λ r. ⌜ r ≡ at + length (now (to .entry)) ⌝ }
+    ensures { λ r. ⌜ LevelWritten (shape .k) state level at (now (to .entry)) (now (marks .entry)) (now (leaves .entry)) (now (arrives .entry)) (now (bears .entry)) (now (leaves .exit)) (now (arrives .exit)) (now (bears .exit)) ⌝ }
+{
+    let k = shape.k;
+    let leaving = number_of(state, level, shape);
+    let mut i = 0;
+    while i < to.len() {
+        let landing = land(marks[i], level, k);
+        let arriving = number_of(to[i], landing.level, shape);
+        let place = at + i;
+        leaves[place] = leaving;
+        arrives[place] = arriving;
+        bears[place] = landing.marks;
+        i += 1;
+    }
+    at + i
+}
+
+// Writes the edges of a state's row, level by level, from place `at` on; answers with the place behind them.
+fn lift_row(
+    state: u32,
+    shape: Shape,
+    to: &[u32],
+    marks: &[Marks],
+    at: usize,
+    leaves: &mut [u32],
+    arrives: &mut [u32],
+    bears: &mut [Marks],
+) -> usize
+    requires { ⌜ Ladder (shape .states) (shape .k) (shape .levels) ⌝ }
+    requires { ⌜ RowAsked (shape .states) state (now to) (now marks) ⌝ }
+    requires { ⌜ Room at (shape .levels * length (now to)) (now leaves) (now arrives) (now bears) ⌝ }
+    ensures { λ r. ⌜ r ≡ at + shape .levels * length (now (to .entry)) ⌝ }
+    ensures { λ r. ⌜ RowWritten (shape .k) state (shape .levels) at (now (to .entry)) (now (marks .entry)) (now (leaves .entry)) (now (arrives .entry)) (now (bears .entry)) (now (leaves .exit)) (now (arrives .exit)) (now (bears .exit)) ⌝ }
+{
+    let levels = shape.levels;
+    let mut next = at;
+    let mut level = 0;
+    while level < levels {
+        next = lift_level(state, level, shape, to, marks, next, leaves, arrives, bears);
+        level += 1;
+    }
+    next
+}
+
+// Writes all translated edges, row by row: a state without edges takes no time.
+pub(crate) fn lift_table(
+    shape: Shape,
+    from: &[u32],
+    to: &[u32],
+    marks: &[Marks],
+    leaves: &mut [u32],
+    arrives: &mut [u32],
+    bears: &mut [Marks],
+)
+    requires { ⌜ Ladder (shape .states) (shape .k) (shape .levels) ⌝ }
+    requires { ⌜ Proper (lent (shape .states) 0 (now from) (now to) (now marks)) ⌝ }
+    requires { ⌜ Room 0 (length (now from) * shape .levels) (now leaves) (now arrives) (now bears) ⌝ }
+    ensures { λ _. ⌜ StatesWritten (lent (shape .states) 0 (now (from .entry)) (now (to .entry)) (now (marks .entry))) (shape .k) (shape .states) (now (leaves .entry)) (now (arrives .entry)) (now (bears .entry)) (now (leaves .exit)) (now (arrives .exit)) (now (bears .exit)) ⌝ }
+{
+    let mut first = 0;
+    let mut place = 0;
+    while first < from.len() {
+        let state = from[first];
+        let end = first + run(&from[first..], state);
+        let ends = &to[first..end];
+        let sets = &marks[first..end];
+        place = lift_row(state, shape, ends, sets, place, leaves, arrives, bears);
+        first = end;
+    }
+}

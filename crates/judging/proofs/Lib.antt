@@ -25,6 +25,7 @@ pub mod Steps
 pub mod Stores
 pub mod Swaps
 pub mod Tying
+pub mod Unique
 pub mod Unions
 pub mod Walks
 pub mod Way

@@ -47,6 +47,21 @@ module _ (t : Table) (proper : Proper t) (k : ℕ) where
       rw (from-at q (omega arith), from-at (suc q) l)
       (number-up (levels k) (stateAt t k q) (levelAt t k q) (stateAt t k (suc q)) (levelAt t k (suc q)) (stands t proper k q (omega arith) .level) (state-up q l) (level-up q l))
 
+  -- ---- its edges lead from states to states
+
+  from-below : (q : ℕ) → q < t .edges * levels k → getD (translated t k .from) q 0 < t .states * levels k
+  from-below q l =
+      let p = stands t proper k q l in
+      let e = under t k q in
+      rw (cell-at t proper k (liftedFrom t k) q l) (number-below (t .states) (levels k) (leaves t e) (levelAt t k q) (proper .from-below e (p .edge)) (p .level))
+
+  to-below : (q : ℕ) → q < t .edges * levels k → getD (translated t k .to) q 0 < t .states * levels k
+  to-below q l =
+      let e = under t k q in
+      let j = landing k (borne t e) (levelAt t k q) in
+      rw (cell-at t proper k (liftedTo t k) q l)
+      (number-below (t .states) (levels k) (getD (t .to) e 0) j (proper .to-below e (stands t proper k q l .edge)) (landing-below k (borne t e) (levelAt t k q)))
+
   -- ---- rows 1 to 7
 
   pub translated-proper : t .states * levels k ≤ mostStates → t .edges * levels k ≤ mostEdges → Proper (translated t k)
@@ -59,20 +74,16 @@ module _ (t : Table) (proper : Proper t) (k : ℕ) where
         marks-length = whole-length t proper k (liftedMarks t k);
         few-edges = few-edges;
         start-below = number-below (t .states) (levels k) (t .start) 0 (proper .start-below) (omega arith);
-        from-below = λ q l.
-            let p = stands t proper k q l in
-            rw (cell-at t proper k (liftedFrom t k) q l) (number-below (t .states) (levels k) (leaves t (under t k q)) (levelAt t k q) (proper .from-below (under t k q) (p .edge)) (p .level));
-        to-below = λ q l.
-            let p = stands t proper k q l in
-            rw (cell-at t proper k (liftedTo t k) q l)
-            (number-below (t .states) (levels k) (getD (t .to) (under t k q) 0) (landing k (borne t (under t k q)) (levelAt t k q)) (proper .to-below (under t k q) (p .edge)) (landing-below k (borne t (under t k q)) (levelAt t k q)));
+        from-below = from-below;
+        to-below = to-below;
         sorted = from-up;
       }
 
   -- the three lists, lent again, are the translated table
   pub lent-again : lent (t .states * levels k) (number k (t .start) 0) (translated t k .from) (translated t k .to) (translated t k .marks) ≡ translated t k
   lent-again =
-      ap (λ (m : ℕ). record { states = t .states * levels k; start = number k (t .start) 0; edges = m; from = translated t k .from; to = translated t k .to; marks = translated t k .marks })
+      let u = translated t k in
+      ap (λ (m : ℕ). record { states = u .states; start = u .start; edges = m; from = u .from; to = u .to; marks = u .marks })
       (whole-length t proper k (liftedFrom t k))
 
   pub translated-sound : t .states * levels k ≤ mostStates → t .edges * levels k ≤ mostEdges → refusal (translated t k) (Buchi 1) [] ≡ Sound

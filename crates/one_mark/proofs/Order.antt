@@ -139,7 +139,8 @@ module _ (t : Table) (k : ℕ) (f : ℕ → ℕ → ℕ) where
   none-between s d e =
       let rest = each (rowCells t k f) (0 + s) d in
       let split = each-split (rowCells t k f) 0 s d in
-      let long : length rest ≡ 0 = omega (arith, ap length split, length-append (each (rowCells t k f) 0 s) rest, order-length s, order-length (s + d), ap (λ (i : ℕ). i * levels k) e) in
+      let both = length-append (each (rowCells t k f) 0 s) rest in
+      let long : length rest ≡ 0 = omega (arith, ap length split, both, order-length s, order-length (s + d), ap (λ (i : ℕ). i * levels k) e) in
       sym (split ∙ ap (λ xs. each (rowCells t k f) 0 s ++ xs) (no-cells rest long) ∙ append-nil (each (rowCells t k f) 0 s))
 
   -- states without edges add nothing

@@ -104,7 +104,8 @@ module _ (t : Table) (proper : Proper t) (k : ℕ) where
 
     at-most : position < t .edges * levels k
     at-most =
-        let most : (rowStart t s + rowLength t s) * levels k ≤ t .edges * levels k = mul-le-mul-right (levels k) (omega (arith, row-edges s, table-row t proper s .ends, proper .from-length)) in
+        let ends : rowStart t s + rowLength t s ≤ t .edges = omega (arith, row-edges s, table-row t proper s .ends, proper .from-length) in
+        let most : (rowStart t s + rowLength t s) * levels k ≤ t .edges * levels k = mul-le-mul-right (levels k) ends in
         omega (arith, in-levels)
 
   module _ (e j : ℕ) (listed : e < t .edges) (level : j < levels k) where

@@ -147,6 +147,27 @@ fn last_loop(label: &[u8], n: u32, last: u32) {
     print_outputs(&leaves, &arrives, &bears);
 }
 
+// One state, and as many unmarked loops as `zeros` has cells; 32768 cells are lent. The last cell of each output is printed.
+fn many_loops(label: &[u8], zeros: &[u32]) {
+    let mut leaves = [7u32; 32768];
+    let mut arrives = [7u32; 32768];
+    let mut bears = [7u32; 32768];
+    print(label);
+    let answer = translate(
+        1,
+        0,
+        zeros,
+        zeros,
+        zeros,
+        2,
+        &mut leaves,
+        &mut arrives,
+        &mut bears,
+    );
+    print_answer(answer);
+    print_outputs(&leaves[32767..], &arrives[32767..], &bears[32767..]);
+}
+
 fn main() {
     longer(b"shift case 14, two cells more: ", 0, 2);
     exact(b"as many cells as needed, start 1: ", 1);
@@ -160,4 +181,7 @@ fn main() {
     two_loops(b"k = 32, all marks but 5: ", 32, 4294967263);
     last_loop(b"n = 2048: ", 2048, 2047);
     last_loop(b"n = 2049: ", 2049, 2048);
+    let zeros = [0u32; 16385];
+    many_loops(b"m = 16384: ", &zeros[..16384]);
+    many_loops(b"m = 16385: ", &zeros);
 }

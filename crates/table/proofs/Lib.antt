@@ -3,4 +3,5 @@ pub mod Needs
 pub mod Rows
 pub mod Shifts
 pub mod Sound
+pub mod Unique
 pub mod Walks

@@ -41,6 +41,13 @@ pub struct Answer {
     pub verdict: Verdict,
 }
 
+// A refusal that is no edge's.
+fn refused(number: u32) -> Finding
+    ensures { λ r. ⌜ r ≡ Finding.Refused number 0 ⌝ }
+{
+    Finding::Refused { number, place: 0 }
+}
+
 // Rows 1 to 7: the number and place of the first cause in the stated order, or that there is none.
 pub fn check(
     n: u32,
@@ -54,46 +61,25 @@ pub fn check(
     ensures { λ r. ⌜ r ≡ refusal (lent n start (now (from .entry)) (now (to .entry)) (now (marks .entry))) condition needs ⌝ }
 {
     if n == 0 {
-        return Finding::Refused {
-            number: 1,
-            place: 0,
-        };
+        return refused(1);
     }
     if MOST_STATES < n {
-        return Finding::Refused {
-            number: 1,
-            place: 0,
-        };
+        return refused(1);
     }
     if from.len() != to.len() {
-        return Finding::Refused {
-            number: 2,
-            place: 0,
-        };
+        return refused(2);
     }
     if from.len() != marks.len() {
-        return Finding::Refused {
-            number: 2,
-            place: 0,
-        };
+        return refused(2);
     }
     if MOST_EDGES < from.len() {
-        return Finding::Refused {
-            number: 2,
-            place: 0,
-        };
+        return refused(2);
     }
     if n <= start {
-        return Finding::Refused {
-            number: 3,
-            place: 0,
-        };
+        return refused(3);
     }
     if condition::wrong_condition(condition, needs) {
-        return Finding::Refused {
-            number: 4,
-            place: 0,
-        };
+        return refused(4);
     }
     let used = condition::used_marks(condition, needs);
     edges::first_fault(n, start, from, to, marks, used)

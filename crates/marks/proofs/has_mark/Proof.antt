@@ -1,7 +1,7 @@
 -- `marks::has_mark` meets its contract: the shifted word's last digit is the mark's digit, and a word has no mark past its width
 -- (`has-fits`). Assumes nothing.
 use mathlib.Core.Path.{_≡_}
-use mathlib.Core.Bool.{Bool, true, false, false≢true}
+use mathlib.Core.Bool.{true, false, false≢true}
 use Prim.Native.Nat.{_/_, _%_, _^_}
 use native.Mathlib.Omega.{arith}
 use borrow.Author.Needs.{needs}

@@ -4,50 +4,38 @@ use lib.ListN.{length}
 use borrow.Author.Needs.{needs}
 use Rattle.one_mark_limits.proofs.print_list.Statement.{statement}
 use Rattle.one_mark_limits.proofs.print_list.Tie as tie
-use Rattle.one_mark_limits.proofs.print_list.Reads as reads
-use Rattle.one_mark_limits.proofs.print_list.Lts as lts
-use Rattle.one_mark_limits.proofs.print.Reads as print-reads
-use Rattle.one_mark_limits.proofs.print_cell.Reads as print-cell-reads
 
+-- the cells passed are within the list
 abbrev Inv-loop : tie.InvT-loop
 Inv-loop label cells i₀ i = i ≤ length cells
 
 abbrev μ-loop : tie.MeasureT-loop
 μ-loop label cells i₀ i = length cells - i
 
--- src/main.rt:25:5
 print-requires : tie.Need-print-requires Inv-loop μ-loop
 print-requires c κs = search needs
 
--- src/main.rt:27:5
 loop-holds : tie.Need-loop-holds Inv-loop μ-loop
 loop-holds c = search needs
 
--- src/main.rt:28:23
 mul-print-cell : tie.Need-mul-print-cell Inv-loop μ-loop
 mul-print-cell c = search needs
 
--- src/main.rt:28:23
 shared-slice-read-print-cell : tie.Need-shared-slice-read-print-cell Inv-loop μ-loop
 shared-slice-read-print-cell c = search needs
 
--- src/main.rt:28:9
 print-cell-requires : tie.Need-print-cell-requires Inv-loop μ-loop
 print-cell-requires c κs = search needs
 
--- src/main.rt:29:9
 add-i : tie.Need-add-i Inv-loop μ-loop
 add-i c = search needs
 
--- src/main.rt:27:5
 loop-less : tie.Need-loop-less Inv-loop μ-loop
 loop-less c = search needs
 
--- src/main.rt:27:5
 loop-again : tie.Need-loop-again Inv-loop μ-loop
 loop-again c = search needs
 
--- src/main.rt:24:1
 returns : tie.Need-returns Inv-loop μ-loop
 returns c = search needs
 

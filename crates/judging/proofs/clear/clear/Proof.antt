@@ -1,11 +1,10 @@
 -- `clear::clear` meets its contract. The invariant: the first i cells are 0 and the rest as it was (`fill-more`). The measure is the cells left.
 -- Assumes nothing.
-use mathlib.Core.Path.{_≡_, refl, sym, ap, _∙_}
+use mathlib.Core.Path.{_≡_, refl, ap, _∙_}
 use mathlib.Core.List.{List, _++_, append-nil}
 use Prim.Native.Nat.{ℕ, _-_, _≤_}
 use native.Mathlib.Omega.{arith}
 use lib.ListN.{length, drop, set, replicate, length-set, drop-of-length-le}
-use borrow.Author.Needs.{needs}
 use borrow.Author.Fill.{fill-more}
 use Rattle.judging.proofs.clear.clear.Statement.{statement}
 use Rattle.judging.proofs.clear.clear.Tie as tie

@@ -9,7 +9,6 @@ use Rattle.judging.specs.Answer.{largest}
 use Rattle.judging.proofs.Largest.{largest-more, largest-done}
 use Rattle.judging.proofs.rank.largest_need.Statement.{statement}
 use Rattle.judging.proofs.rank.largest_need.Tie as tie
-use Rattle.judging.proofs.rank.larger.Reads as larger-reads
 
 abbrev Inv-loop : tie.InvT-loop
 Inv-loop needs most₀ i₀ most i = (i ≤ 8) × (largest needs ≡ max most (largest (drop i needs)))

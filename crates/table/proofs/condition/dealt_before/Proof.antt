@@ -1,15 +1,14 @@
-use mir.Syntax.{w32}
-use mir.Val.{Fits}
-use lib.ListN.{getD}
 -- `condition::dealt_before` meets its contract. The invariant: the sum is what is dealt out before pair i, and each pair adds at most
 -- 2 ^ 32, so that it fits. The measure is the pairs left. Assumes nothing.
-use mathlib.Core.Path.{_≡_, refl, sym, ap, _∙_}
-use Prim.Native.Nat.{ℕ, _+_, _-_, _*_, _≤_}
-use lib.ListN.{length, drop}
+use mathlib.Core.Path.{_≡_, refl, ap, _∙_}
+use Prim.Native.Nat.{_-_, _*_, _≤_}
+use native.Mathlib.Omega.{arith}
+use lib.ListN.{getD}
+use mir.Syntax.{w32}
+use mir.Val.{Fits}
+use borrow.Author.Needs.{needs}
 use Rattle.table.specs.Condition.{dealt}
 use Rattle.table.proofs.Needs.{dealt-more}
-use borrow.Author.Needs.{needs}
-use native.Mathlib.Omega.{arith}
 use Rattle.table.proofs.condition.dealt_before.Statement.{statement}
 use Rattle.table.proofs.condition.dealt_before.Tie as tie
 

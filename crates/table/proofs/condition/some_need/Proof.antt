@@ -1,12 +1,12 @@
 -- `condition::some_need` meets its contract. The invariant: the needs from p on hold one that is not 0 exactly if those from i on do.
 -- The measure is what is left of the eight. Assumes nothing.
-use mathlib.Core.Path.{_≡_, refl, sym, ap, _∙_}
-use Prim.Native.Nat.{ℕ, _+_, _-_, _≤_}
+use mathlib.Core.Path.{_≡_, refl, sym, _∙_}
+use Prim.Native.Nat.{_-_, _≤_}
+use native.Mathlib.Omega.{arith}
 use lib.ListN.{length, drop}
+use borrow.Author.Needs.{needs}
 use Rattle.table.specs.Refusal.{someNeed}
 use Rattle.table.proofs.Needs.{need-found, need-passed, need-over}
-use borrow.Author.Needs.{needs}
-use native.Mathlib.Omega.{arith}
 use Rattle.table.proofs.condition.some_need.Statement.{statement}
 use Rattle.table.proofs.condition.some_need.Tie as tie
 

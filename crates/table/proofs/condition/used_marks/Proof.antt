@@ -1,11 +1,11 @@
-use Rattle.table.specs.declared.Acceptance.the-variants.{Rabin}
 -- `condition::used_marks` meets its contract: each case is that of `used`, and row 4 keeps it within a word (`used-few`). Assumes nothing.
-use mathlib.Core.Path.{_≡_, refl, sym, ap, _∙_}
-use native.Mathlib.Omega.{arith}
+use mathlib.Core.Path.{_≡_}
 use Prim.Native.Nat.{_*_}
+use native.Mathlib.Omega.{arith}
+use borrow.Author.Needs.{needs}
+use Rattle.table.specs.declared.Acceptance.the-variants.{Rabin}
 use Rattle.table.specs.Refusal.{used}
 use Rattle.table.proofs.Sound.{used-few, rabin-few}
-use borrow.Author.Needs.{needs}
 use Rattle.table.proofs.condition.used_marks.Statement.{statement}
 use Rattle.table.proofs.condition.used_marks.Tie as tie
 

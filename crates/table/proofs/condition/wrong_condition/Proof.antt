@@ -1,5 +1,4 @@
 -- `condition::wrong_condition` meets its contract: each case is row 4's. Assumes nothing.
-use mathlib.Core.Path.{_≡_, refl, sym, ap, _∙_}
 use borrow.Author.Needs.{needs}
 use Rattle.table.proofs.condition.wrong_condition.Statement.{statement}
 use Rattle.table.proofs.condition.wrong_condition.Tie as tie

@@ -1,10 +1,10 @@
 -- `condition::wrong_rabin` meets its contract: its tests are those of row 4 for Rabin, in order. Assumes nothing.
-use mathlib.Core.Path.{_≡_, refl, sym, ap, _∙_}
-use borrow.Author.Tests.{lt-ltb, le-ltb}
-use lib.Dec.{ltb}
+use mathlib.Core.Path.{sym, ap, _∙_}
 use Prim.Native.Nat.{ℕ}
-use Rattle.marks.specs.Mark.{width}
+use lib.Dec.{ltb}
+use borrow.Author.Tests.{lt-ltb, le-ltb}
 use borrow.Author.Needs.{needs}
+use Rattle.marks.specs.Mark.{width}
 use Rattle.table.proofs.condition.wrong_rabin.Statement.{statement}
 use Rattle.table.proofs.condition.wrong_rabin.Tie as tie
 

@@ -1,23 +1,17 @@
-use mathlib.Core.Bool.{Bool, true, false}
-use native.Mathlib.Nat.{sub-zero, le-antisymm}
-use native.Mathlib.Numerals.{add-one}
-use lib.ListN.{getD}
-use borrow.Author.Tests.{not-true, not-false}
-use Rattle.marks.proofs.Cases.{below}
-use Rattle.table.specs.Table.{Table, borne}
-use Rattle.table.proofs.Faults.{five-leaves, five-arrives, six, seven, faultless, decided, uncovered, covered}
 -- `edges::first_fault` meets its contract. The invariant: the first cause among all edges is the first among those from e on, and
 -- `before` is the from state of the edge before e. Each test is one of the rows (`Faults`). The measure is the edges left. Assumes nothing.
 use mathlib.Core.Path.{_≡_, refl, sym, ap, _∙_}
 use Prim.Native.Nat.{ℕ, suc, _+_, _-_, _^_, _≤_, _<_}
-use lib.ListN.{length}
-use Rattle.marks.specs.Mark.{firstMarks, width}
-use Rattle.table.specs.Table.{lent}
-use Rattle.table.specs.Refusal.{edgeRefusal}
-use Rattle.table.proofs.Faults as faults
-use borrow.Author.Needs.{needs}
+use native.Mathlib.Nat.{sub-zero}
+use native.Mathlib.Numerals.{add-one}
 use native.Mathlib.Omega.{arith}
+use lib.ListN.{getD, length}
+use borrow.Author.Needs.{needs}
+use Rattle.table.specs.Table.{lent}
+use Rattle.table.proofs.Faults.{five-leaves, five-arrives, six, seven, faultless, decided, uncovered, covered}
+use Rattle.table.specs.Refusal.{edgeRefusal}
 use Rattle.table.proofs.edges.first_fault.Statement.{statement}
+use Rattle.table.proofs.Faults as faults
 use Rattle.table.proofs.edges.first_fault.Tie as tie
 
 abbrev Inv-loop : tie.InvT-loop

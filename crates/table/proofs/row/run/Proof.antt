@@ -1,14 +1,14 @@
 -- `row::run` meets its contract. The invariant: what is left of the run is the run of the part from i on, so at the first other
 -- state (`run-none`), and at the part's end (`run-over`), i is the whole run. The measure is what is left of the part. Assumes nothing.
-use mathlib.Core.Path.{_≡_, refl, sym, ap, _∙_}
+use mathlib.Core.Path.{_≡_, sym, ap, _∙_}
 use Prim.Native.Nat.{ℕ, _+_, _-_, _≤_}
 use native.Mathlib.Nat.{add-zero}
 use native.Mathlib.Numerals.{add-one}
+use native.Mathlib.Omega.{arith}
 use lib.ListN.{length, drop}
+use borrow.Author.Needs.{needs}
 use Rattle.table.specs.Row.{run}
 use Rattle.table.proofs.Rows.{run-more, run-none, run-over}
-use borrow.Author.Needs.{needs}
-use native.Mathlib.Omega.{arith}
 use Rattle.table.proofs.row.run.Statement.{statement}
 use Rattle.table.proofs.row.run.Tie as tie
 

@@ -1,0 +1,2 @@
+-- What the crate proves beyond its functions' contracts.
+pub mod Unique

@@ -1,0 +1,63 @@
+-- What the C face tells (document 01, "What comes back"): the numbers of an answer that the judge, or the translation, promises. Assumes nothing.
+use mathlib.Core.Path.{_≡_}
+use mathlib.Core.List.{List}
+use Prim.Native.Nat.{ℕ}
+use lib.ListN.{replicate}
+use Rattle.table.specs.declared.Acceptance.{Acceptance}
+use Rattle.table.specs.declared.Verdict.{Verdict}
+use Rattle.table.specs.declared.Verdict.the-variants.{Run, Empty, Refused}
+use Rattle.table.specs.declared.Answer.{Answer}
+use Rattle.table.specs.Table.{Table}
+use Rattle.judging.specs.Answer.{Answers, kindOf, numberOf, placeOf, pairOf}
+use Rattle.one_mark.specs.declared.Translation.{Translation}
+use Rattle.one_mark.specs.Outcome.{Outcome, statesOf, edgesOf, startOf, numberOf as tableNumberOf, placeOf as tablePlaceOf}
+use Rattle.mukhadero.specs.declared.AnswerNumbers.{AnswerNumbers}
+use Rattle.mukhadero.specs.declared.TableNumbers.{TableNumbers}
+
+-- ---- the judge
+
+-- the lengths of a run's prefix and cycle; 0 where there is none
+abbrev pub prefixOf : Verdict → ℕ
+prefixOf (Run prefix cycle pair) = prefix
+prefixOf Empty = 0
+prefixOf (Refused number place) = 0
+
+abbrev pub cycleOf : Verdict → ℕ
+cycleOf (Run prefix cycle pair) = cycle
+cycleOf Empty = 0
+cycleOf (Refused number place) = 0
+
+-- a verdict in plain numbers
+abbrev pub answerNumbers : Verdict → AnswerNumbers
+answerNumbers v =
+    record {
+      verdict = kindOf v;
+      number = numberOf v;
+      place = placeOf v;
+      pair = pairOf v;
+      prefix = prefixOf v;
+      cycle = cycleOf v;
+    }
+
+-- kinds other than Rabin do not read the needs
+abbrev pub noNeeds : List ℕ
+noNeeds = replicate 8 0
+
+-- the numbers are those of an answer that the judge promises for this input, and the lent cells are as promised with it
+pub record JudgeTells (t : Table) (c : Acceptance) (needs room room' scratch scratch' : List ℕ) (r : AnswerNumbers) : Type 0 where
+  pub answer : Answer
+  pub promised : Answers t c needs room room' scratch scratch' answer
+  pub told : r ≡ answerNumbers (answer .verdict)
+
+-- ---- the translation
+
+-- its answer in plain numbers
+abbrev pub tableNumbers : Translation → TableNumbers
+tableNumbers a =
+    record { number = tableNumberOf a; place = tablePlaceOf a; states = statesOf a; edges = edgesOf a; start = startOf a }
+
+-- the numbers are those of the answer that the translation promises, and the outputs hold what it promises
+pub record TranslationTells (t : Table) (k : ℕ) (from to marks : List ℕ) (r : TableNumbers) (from' to' marks' : List ℕ) : Type 0 where
+  pub answer : Translation
+  pub promised : Outcome t k from to marks answer from' to' marks'
+  pub told : r ≡ tableNumbers answer

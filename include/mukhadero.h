@@ -1,0 +1,177 @@
+/*
+ * mukhadero: does a table hold an accepted lasso?
+ *
+ * A table has states 0..n-1, a start state and edges 0..m-1; edge e leads from from[e] to to[e] and bears the marks whose bits are
+ * set in marks[e]. A lasso is a prefix (a walk from the start, perhaps empty) and a cycle (a non-empty walk from the end of the
+ * prefix back to it). The judge answers "run" with an accepted lasso, "empty" if there is none, or refuses with a number and a place.
+ *
+ * Everything is lent by the caller: nothing is allocated, nothing is kept between calls, and calls on different buffers may run
+ * at the same time. No input is undefined as long as each pointer is good for its count of cells and no lent output overlaps
+ * another buffer of the same call. A count may be 0; its pointer is then not followed.
+ *
+ * Link with target/staticlib/libmukhadero.a (made by `rt staticlib mukhadero`).
+ */
+#ifndef MUKHADERO_H
+#define MUKHADERO_H
+
+#include <stddef.h>
+#include <stdint.h>
+
+#define MUKHADERO_VERSION       "1.0.0"
+#define MUKHADERO_VERSION_MAJOR 1
+#define MUKHADERO_VERSION_MINOR 0
+#define MUKHADERO_VERSION_PATCH 0
+
+#ifdef __cplusplus
+extern "C" {
+#endif
+
+/* Limits of the rows below. */
+enum {
+    MUKHADERO_MOST_STATES        = 4096,
+    MUKHADERO_MOST_EDGES         = 32768,
+    MUKHADERO_MOST_BUCHI_MARKS   = 32,
+    MUKHADERO_MOST_STREETT_PAIRS = 16,
+    MUKHADERO_MOST_RABIN_PAIRS   = 8,
+    MUKHADERO_MOST_RABIN_MARKS   = 32 /* forbidden and needed marks of all pairs together */
+};
+
+/* The field `verdict` of an answer. */
+enum {
+    MUKHADERO_VERDICT_REFUSED = 0,
+    MUKHADERO_VERDICT_EMPTY   = 1,
+    MUKHADERO_VERDICT_RUN     = 2
+};
+
+/* The field `number` of an answer. The place is 0 unless said otherwise. */
+enum {
+    MUKHADERO_ANSWERED              = 0,
+    MUKHADERO_REFUSED_STATES        = 1,  /* n is 0 or above 4,096 */
+    MUKHADERO_REFUSED_EDGES         = 2,  /* the three edge tables differ in length, or m is above 32,768 */
+    MUKHADERO_REFUSED_START         = 3,  /* start is not below n */
+    MUKHADERO_REFUSED_CONDITION     = 4,  /* Buchi above 32 marks, Streett above 16 pairs, Rabin above 8 pairs, a need from p on
+                                             not 0, or Rabin marks above 32 in all */
+    MUKHADERO_REFUSED_EDGE_END      = 5,  /* an edge end is not below n; place: the edge */
+    MUKHADERO_REFUSED_EDGE_ORDER    = 6,  /* an edge's from is below the one before it; place: the edge */
+    MUKHADERO_REFUSED_EDGE_MARK     = 7,  /* an edge bears a mark that the condition does not use; place: the edge */
+    MUKHADERO_REFUSED_ROOM          = 8,  /* the lasso room is too short */
+    MUKHADERO_REFUSED_SCRATCH       = 9,  /* the scratch is too short */
+    MUKHADERO_REFUSED_TABLE_SIZE    = 10, /* the translated table would be above 4,096 states or 32,768 edges */
+    MUKHADERO_REFUSED_OUTPUT        = 11, /* a lent output is shorter than the translated edge count */
+    MUKHADERO_REFUSED_TEXT_LENGTH   = 20, /* job text above 12,288 bytes (20 to 23: only the judge program) */
+    MUKHADERO_REFUSED_LINE_KEY      = 21, /* a line has the wrong key, is missing, or follows the end; place: the line */
+    MUKHADERO_REFUSED_LINE_VALUE    = 22, /* a value is not of its form; place: the line */
+    MUKHADERO_REFUSED_PROGRAM_LIMIT = 23  /* above the program's limits; place: the line */
+};
+
+/* Lasso room that is never too short for n states, in cells of 32 bits; r is k for Buchi, p for Streett, the largest need for Rabin. */
+#define MUKHADERO_ROOM_CELLS(r, n) (((size_t)(r) + 2) * (size_t)(n) - 1)
+/* Scratch that is never too short for n states and m edges, in words of 32 bits. */
+#define MUKHADERO_SCRATCH_WORDS(n, m) (8 * (size_t)(n) + 4 * (size_t)(m) + 64)
+
+/* A judge's answer. A field that has no meaning for the verdict is 0. */
+typedef struct mukhadero_answer {
+    uint32_t verdict;       /* MUKHADERO_VERDICT_.. */
+    uint32_t number;        /* MUKHADERO_ANSWERED, or the cause of the refusal */
+    uint32_t place;         /* refused: the place that belongs to the number */
+    uint32_t pair;          /* Rabin run: the lowest pair that some lasso meets; this lasso meets it */
+    uint32_t prefix_length; /* run: room[0 .. prefix_length) are the edges of the prefix; at most n-1 */
+    uint32_t cycle_length;  /* run: room[prefix_length .. prefix_length + cycle_length) are those of the cycle; at most (r+1)*n */
+} mukhadero_answer;
+
+/* The translation's answer. All but number and place are 0 if it was refused. */
+typedef struct mukhadero_table {
+    uint32_t number; /* MUKHADERO_ANSWERED, or the cause of the refusal */
+    uint32_t place;  /* refused: the place that belongs to the number */
+    uint32_t states; /* states of the translated table: n*K, where K is k, or 1 if k is 0 */
+    uint32_t edges;  /* edges of the translated table: m*K */
+    uint32_t start;  /* start of the translated table: start*K */
+} mukhadero_table;
+
+/*
+ * Buchi k: a lasso is accepted if its cycle bears each of the marks 0..k-1.
+ *
+ * After "run" the room holds the prefix, the cycle, then zeros to its end; after "empty" it is all zero; the scratch is all zero
+ * after either. A refusal changes no lent cell. (The same holds for the other two judges.)
+ */
+mukhadero_answer mukhadero_judge_buchi(
+    uint32_t n,              /* number of states */
+    uint32_t start,          /* the start state */
+    const uint32_t *from,    /* the state each edge leaves; never decreasing; only read */
+    size_t from_len,         /* cells in from */
+    const uint32_t *to,      /* the state each edge arrives at; only read */
+    size_t to_len,           /* cells in to; must equal from_len */
+    const uint32_t *marks,   /* the marks on each edge, mark i as bit i; only read */
+    size_t marks_len,        /* cells in marks; must equal from_len */
+    uint32_t k,              /* number of marks */
+    uint32_t *room,          /* receives the lasso */
+    size_t room_len,         /* cells in room; at least MUKHADERO_ROOM_CELLS(k, n) */
+    uint32_t *scratch,       /* working space; what it holds before does not matter */
+    size_t scratch_len       /* words in scratch; at least MUKHADERO_SCRATCH_WORDS(n, m) */
+);
+
+/* Streett p: a lasso is accepted if, for each pair i below p, its cycle bears mark 2i+1 or does not bear mark 2i. */
+mukhadero_answer mukhadero_judge_streett(
+    uint32_t n,              /* number of states */
+    uint32_t start,          /* the start state */
+    const uint32_t *from,    /* the state each edge leaves; never decreasing; only read */
+    size_t from_len,         /* cells in from */
+    const uint32_t *to,      /* the state each edge arrives at; only read */
+    size_t to_len,           /* cells in to; must equal from_len */
+    const uint32_t *marks,   /* the marks on each edge, mark i as bit i; only read */
+    size_t marks_len,        /* cells in marks; must equal from_len */
+    uint32_t p,              /* number of pairs */
+    uint32_t *room,          /* receives the lasso */
+    size_t room_len,         /* cells in room; at least MUKHADERO_ROOM_CELLS(p, n) */
+    uint32_t *scratch,       /* working space; what it holds before does not matter */
+    size_t scratch_len       /* words in scratch; at least MUKHADERO_SCRATCH_WORDS(n, m) */
+);
+
+/*
+ * Rabin p: marks are dealt out in order; pair i takes one forbidden mark, then needs[i] needed marks. A lasso is accepted if, for
+ * some pair, its cycle bears all the needed marks and not the forbidden one.
+ */
+mukhadero_answer mukhadero_judge_rabin(
+    uint32_t n,              /* number of states */
+    uint32_t start,          /* the start state */
+    const uint32_t *from,    /* the state each edge leaves; never decreasing; only read */
+    size_t from_len,         /* cells in from */
+    const uint32_t *to,      /* the state each edge arrives at; only read */
+    size_t to_len,           /* cells in to; must equal from_len */
+    const uint32_t *marks,   /* the marks on each edge, mark i as bit i; only read */
+    size_t marks_len,        /* cells in marks; must equal from_len */
+    uint32_t p,              /* number of pairs */
+    const uint32_t needs[8], /* needed marks of each pair; those from p on must be 0; only read; never NULL */
+    uint32_t *room,          /* receives the lasso */
+    size_t room_len,         /* cells in room; at least MUKHADERO_ROOM_CELLS(largest need, n) */
+    uint32_t *scratch,       /* working space; what it holds before does not matter */
+    size_t scratch_len       /* words in scratch; at least MUKHADERO_SCRATCH_WORDS(n, m) */
+);
+
+/*
+ * The one-mark translation of a table under Buchi k, to be read as Buchi 1. Let K be k, or 1 if k is 0: state s at level j has
+ * number s*K + j. Each output holds m*K cells, then zeros to its own end. A refusal changes no lent cell.
+ */
+mukhadero_table mukhadero_one_mark(
+    uint32_t n,              /* number of states */
+    uint32_t start,          /* the start state */
+    const uint32_t *from,    /* the state each edge leaves; never decreasing; only read */
+    size_t from_len,         /* cells in from */
+    const uint32_t *to,      /* the state each edge arrives at; only read */
+    size_t to_len,           /* cells in to; must equal from_len */
+    const uint32_t *marks,   /* the marks on each edge, mark i as bit i; only read */
+    size_t marks_len,        /* cells in marks; must equal from_len */
+    uint32_t k,              /* number of marks */
+    uint32_t *out_from,      /* receives the state each translated edge leaves */
+    size_t out_from_len,     /* cells in out_from; at least m*K */
+    uint32_t *out_to,        /* receives the state each translated edge arrives at */
+    size_t out_to_len,       /* cells in out_to; at least m*K */
+    uint32_t *out_marks,     /* receives the marks of each translated edge: 1 if it bears mark 0, else 0 */
+    size_t out_marks_len     /* cells in out_marks; at least m*K */
+);
+
+#ifdef __cplusplus
+}
+#endif
+
+#endif

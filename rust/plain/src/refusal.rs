@@ -1,0 +1,99 @@
+//! Rows 1 to 9 of document 01's table, in its order.
+
+use crate::{Condition, Table};
+
+pub const MOST_STATES: u32 = 4096;
+pub const MOST_EDGES: usize = 32768;
+
+/// The set of the marks 0..count-1, for a count of at most 32.
+pub fn first_marks(count: u32) -> u32 {
+    if count == 0 {
+        0
+    } else {
+        u32::MAX >> (32 - count)
+    }
+}
+
+/// The marks that a condition uses, or nothing if row 4 refuses it.
+fn used_marks(condition: &Condition) -> Option<u32> {
+    let count = match *condition {
+        Condition::Buchi(k) => k,
+        Condition::Streett(p) if p <= 16 => 2 * p,
+        Condition::Rabin(p, needs) if p <= 8 => {
+            let (inside, behind) = needs.split_at(p as usize);
+            if behind.iter().any(|&need| need != 0) {
+                return None;
+            }
+            inside.iter().fold(p, |sum, &need| sum.saturating_add(need))
+        }
+        _ => return None,
+    };
+    (count <= 32).then(|| first_marks(count))
+}
+
+/// r of document 01: k, p, or the largest need.
+fn most_legs(condition: &Condition) -> u32 {
+    match *condition {
+        Condition::Buchi(k) => k,
+        Condition::Streett(p) => p,
+        Condition::Rabin(_, needs) => needs.into_iter().max().unwrap_or(0),
+    }
+}
+
+/// Lasso room in cells, for a condition and a number of states that rows 1 and 4 let through.
+pub fn room_needed(states: u32, condition: &Condition) -> usize {
+    (most_legs(condition) as usize + 2) * states as usize - 1
+}
+
+/// Scratch in words.
+pub fn scratch_needed(states: u32, edges: usize) -> usize {
+    8 * states as usize + 4 * edges + 64
+}
+
+/// Rows 1 to 7: number and place of the first cause.
+pub fn of_table(table: &Table, condition: &Condition) -> Option<(u32, u32)> {
+    let n = table.states;
+    let m = table.from.len();
+    if n == 0 || n > MOST_STATES {
+        return Some((1, 0));
+    }
+    if table.to.len() != m || table.marks.len() != m || m > MOST_EDGES {
+        return Some((2, 0));
+    }
+    if table.start >= n {
+        return Some((3, 0));
+    }
+    let Some(used) = used_marks(condition) else {
+        return Some((4, 0));
+    };
+    let mut before = 0;
+    for e in 0..m {
+        let from = table.from[e];
+        if from >= n || table.to[e] >= n {
+            return Some((5, e as u32));
+        }
+        if from < before {
+            return Some((6, e as u32));
+        }
+        if table.marks[e] & !used != 0 {
+            return Some((7, e as u32));
+        }
+        before = from;
+    }
+    None
+}
+
+/// Rows 1 to 9.
+pub fn of_judge(table: &Table, condition: &Condition, room: usize, scratch: usize) -> Option<(u32, u32)> {
+    let first = of_table(table, condition);
+    if first.is_some() {
+        return first;
+    }
+    if room < room_needed(table.states, condition) {
+        return Some((8, 0));
+    }
+    if scratch < scratch_needed(table.states, table.from.len()) {
+        return Some((9, 0));
+    }
+    None
+}

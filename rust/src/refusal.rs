@@ -1,0 +1,116 @@
+//! Refusals: the numbers of document 01's table and their places.
+
+use std::fmt;
+
+/// Why a table was refused.
+#[derive(Clone, Copy, Debug, PartialEq, Eq, Hash)]
+#[non_exhaustive]
+pub enum Cause {
+    /// Number 1: there are no states, or more than 4,096.
+    States,
+    /// Number 2: the three edge tables differ in length, or there are more than 32,768 edges.
+    Edges,
+    /// Number 3: the start is not below the number of states.
+    Start,
+    /// Number 4: too many marks or pairs, or a need from `pairs` on that is not 0.
+    Condition,
+    /// Number 5: an edge end is not below the number of states. The place is the edge.
+    EdgeEnd,
+    /// Number 6: an edge's from is below the one before it. The place is the edge.
+    EdgeOrder,
+    /// Number 7: an edge bears a mark that the condition does not use. The place is the edge.
+    EdgeMark,
+    /// Number 8: the lasso room is too short.
+    Room,
+    /// Number 9: the scratch is too short.
+    Scratch,
+    /// Number 10: the translated table would have more than 4,096 states or 32,768 edges.
+    TableSize,
+    /// Number 11: a lent output is shorter than the translated edge count.
+    Output,
+    /// A number that this crate does not know: the archive is of another version.
+    Unknown(u32),
+}
+
+impl Cause {
+    fn of(number: u32) -> Self {
+        match number {
+            1 => Cause::States,
+            2 => Cause::Edges,
+            3 => Cause::Start,
+            4 => Cause::Condition,
+            5 => Cause::EdgeEnd,
+            6 => Cause::EdgeOrder,
+            7 => Cause::EdgeMark,
+            8 => Cause::Room,
+            9 => Cause::Scratch,
+            10 => Cause::TableSize,
+            11 => Cause::Output,
+            number => Cause::Unknown(number),
+        }
+    }
+
+    /// The number of the cause, as in the printed answer and in `mukhadero.h`.
+    pub fn number(self) -> u32 {
+        match self {
+            Cause::States => 1,
+            Cause::Edges => 2,
+            Cause::Start => 3,
+            Cause::Condition => 4,
+            Cause::EdgeEnd => 5,
+            Cause::EdgeOrder => 6,
+            Cause::EdgeMark => 7,
+            Cause::Room => 8,
+            Cause::Scratch => 9,
+            Cause::TableSize => 10,
+            Cause::Output => 11,
+            Cause::Unknown(number) => number,
+        }
+    }
+}
+
+impl fmt::Display for Cause {
+    fn fmt(&self, f: &mut fmt::Formatter) -> fmt::Result {
+        f.write_str(match self {
+            Cause::States => "the number of states is 0 or above 4096",
+            Cause::Edges => "the edge tables differ in length, or have more than 32768 edges",
+            Cause::Start => "the start is not below the number of states",
+            Cause::Condition => "the condition has too many marks or pairs, or a need behind its pairs",
+            Cause::EdgeEnd => "an edge end is not below the number of states",
+            Cause::EdgeOrder => "an edge's from is below the one before it",
+            Cause::EdgeMark => "an edge bears a mark that the condition does not use",
+            Cause::Room => "the lasso room is too short",
+            Cause::Scratch => "the scratch is too short",
+            Cause::TableSize => "the translated table would be too large",
+            Cause::Output => "a lent output is too short",
+            Cause::Unknown(_) => "a cause that this crate does not know",
+        })
+    }
+}
+
+/// A refusal: its cause and its place, which is the edge for the causes that name one, else 0.
+#[derive(Clone, Copy, Debug, PartialEq, Eq, Hash)]
+pub struct Refusal {
+    /// Why.
+    pub cause: Cause,
+    /// Where.
+    pub place: u32,
+}
+
+impl Refusal {
+    pub(crate) fn of(number: u32, place: u32) -> Self {
+        Refusal { cause: Cause::of(number), place }
+    }
+}
+
+impl fmt::Display for Refusal {
+    fn fmt(&self, f: &mut fmt::Formatter) -> fmt::Result {
+        write!(f, "{} (number {}", self.cause, self.cause.number())?;
+        match self.cause {
+            Cause::EdgeEnd | Cause::EdgeOrder | Cause::EdgeMark => write!(f, ", edge {})", self.place),
+            _ => f.write_str(")"),
+        }
+    }
+}
+
+impl std::error::Error for Refusal {}

@@ -1,0 +1,53 @@
+use native.Mathlib.Omega.{arith}
+use borrow.Author.Needs.{needs}
+use Rattle.job_text.proofs.printer.put_list.Statement.{statement}
+use Rattle.job_text.proofs.printer.put_list.Tie as tie
+
+put-requires : tie.Need-put-requires
+put-requires c κs = search needs
+
+same-length : tie.Need-same-length
+same-length c = search needs
+
+returns : tie.Need-returns
+returns c = search needs
+
+shared-slice-read-put-number : tie.Need-shared-slice-read-put-number
+shared-slice-read-put-number c = search needs
+
+put-number-requires : tie.Need-put-number-requires
+put-number-requires c κs = search needs
+
+sub-put-more : tie.Need-sub-put-more
+sub-put-more c = search needs
+
+part-put-more-start : tie.Need-part-put-more-start
+part-put-more-start c = search needs
+
+part-put-more-end : tie.Need-part-put-more-end
+part-put-more-end c = search needs
+
+put-more-requires : tie.Need-put-more-requires
+put-more-requires c κs = search needs
+
+same-length-2 : tie.Need-same-length-2
+same-length-2 c = search needs
+
+returns-2 : tie.Need-returns-2
+returns-2 c = search needs
+
+pub put-list-spec : {M : Type 1} → statement M
+put-list-spec =
+    tie.close
+    (tie.spec
+    put-requires
+    same-length
+    returns
+    shared-slice-read-put-number
+    put-number-requires
+    sub-put-more
+    part-put-more-start
+    part-put-more-end
+    put-more-requires
+    same-length-2
+    returns-2)

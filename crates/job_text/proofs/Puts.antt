@@ -7,11 +7,13 @@ use native.Mathlib.Nat.{pow-suc, add-zero}
 use native.Mathlib.Numerals.{add-one}
 use native.Mathlib.Omega.{arith}
 use lib.Dec.{ltb}
-use lib.ListN.{length, getD, take, drop, set, length-append, length-set, length-drop, length-replicate, take-append-drop, replicate, replicate-append-replicate}
-use lib.Seq.{sets, sets-eq, length-sets, set-out, take-suc, length-take-le, take-length, drop-length, drop-cons, set-at}
+use lib.ListN.{length, getD, take, drop, set, length-append, length-set, length-take, length-drop, length-replicate, take-append-drop, replicate, replicate-append-replicate}
+use lib.Seq.{sets, sets-eq, length-sets, set-out, take-suc, length-take-le, take-length, take-all, drop-length, drop-cons, set-at}
 use borrow.Author.Tests.{lt-ltb, le-ltb}
 use Rattle.marks.proofs.Cases.{below}
-use Rattle.job_text.specs.Text.{comma}
+use Rattle.table.specs.Row.{part}
+use Rattle.job_text.specs.Text.{comma, newline}
+use Rattle.job_text.specs.Value.{dash}
 use Rattle.job_text.specs.Printed.{decimalIn, decimal, furtherText, listText, shown, Put}
 
 -- ---- one text after another
@@ -149,3 +151,17 @@ pub list-few : (xs : List ℕ) → ((i : ℕ) → getD xs i 0 < 2 ^ 32) → leng
 list-few [] h = omega arith
 list-few (x ∷ xs) h =
     omega (arith, length-append (decimal x) (furtherText xs), decimal-few x (h 0), further-few xs (λ i. h (suc i)))
+
+pub list-none : (xs : List ℕ) → length xs ≡ 0 → listText xs ≡ dash
+list-none [] e = refl
+list-none (x ∷ xs) e = absurd (omega arith)
+
+pub list-some : (xs : List ℕ) → (length xs ≡ 0 → ⊥) → listText xs ≡ decimal (getD xs 0 0) ++ furtherText (part 1 (length xs) xs)
+list-some [] h = absurd (h refl)
+list-some (x ∷ xs) h = rw (take-all (suc (length xs) - 1) xs (omega arith))
+
+pub rest-length : (xs : List ℕ) → length (part 1 (length xs) xs) ≤ length xs - 1
+rest-length xs = omega (arith, length-take (length xs - 1) (drop 1 xs), length-drop 1 xs)
+
+pub shown-length : (key text : List ℕ) → length (shown key text) ≡ length key + length text + 1
+shown-length key text = omega (arith, length-append (key ++ text) (newline ∷ []), length-append key text)

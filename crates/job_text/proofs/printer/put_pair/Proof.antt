@@ -32,13 +32,13 @@ same-length : tie.Need-same-length
 same-length c = search needs
 
 returns : tie.Need-returns
-returns c = rw (c .before .before .before .before .before .enum-told .given .1) (c .before .before .put-word .ensures)
+returns c = rw (c .before .before .before .before .before .enum-told .given .1) (record { put = c .before .before .put-word .ensures; few = omega (arith, c .before .before .put-word .ensures .next) })
 
 same-length-2 : tie.Need-same-length-2
 same-length-2 c = search needs
 
 returns-2 : tie.Need-returns-2
-returns-2 c = rw (c .before .before .before .before .before .enum-told2 .given .1) (c .before .before .put-word2 .ensures)
+returns-2 c = rw (c .before .before .before .before .before .enum-told2 .given .1) (record { put = c .before .before .put-word2 .ensures; few = omega (arith, c .before .before .put-word2 .ensures .next) })
 
 same-length-3 : tie.Need-same-length-3
 same-length-3 c = search needs

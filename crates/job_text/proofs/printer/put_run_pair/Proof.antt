@@ -29,7 +29,8 @@ same-length-2 : tie.Need-same-length-2
 same-length-2 c = search needs
 
 returns-2 : tie.Need-returns-2
-returns-2 c = rw (← c .before .before .before .before .before .before .is-rabin .ensures, c .before .before .before .before .before .if1 .left) (c .before .before .put-word .ensures)
+returns-2 c =
+    rw (← c .before .before .before .before .before .before .is-rabin .ensures, c .before .before .before .before .before .if1 .left) (record { put = c .before .before .put-word .ensures; few = omega (arith, c .before .before .put-word .ensures .next) })
 
 pub put-run-pair-spec : {M : Type 1} → statement M
 put-run-pair-spec =

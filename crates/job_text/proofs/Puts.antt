@@ -7,11 +7,13 @@ use native.Mathlib.Nat.{pow-suc, add-zero}
 use native.Mathlib.Numerals.{add-one}
 use native.Mathlib.Omega.{arith}
 use lib.Dec.{ltb}
-use lib.ListN.{length, getD, take, drop, set, length-append, length-set, length-drop, length-replicate, take-append-drop, replicate, replicate-append-replicate}
-use lib.Seq.{sets, sets-eq, length-sets, set-out, take-suc, length-take-le, take-length, drop-length, drop-cons, set-at}
+use lib.ListN.{length, getD, take, drop, set, length-append, length-set, length-take, length-drop, length-replicate, take-append-drop, replicate, replicate-append-replicate}
+use lib.Seq.{sets, sets-eq, length-sets, set-out, take-suc, length-take-le, take-length, take-all, drop-length, drop-cons, set-at}
 use borrow.Author.Tests.{lt-ltb, le-ltb}
 use Rattle.marks.proofs.Cases.{below}
-use Rattle.job_text.specs.Text.{comma}
+use Rattle.table.specs.Row.{part}
+use Rattle.job_text.specs.Text.{comma, newline}
+use Rattle.job_text.specs.Value.{dash}
 use Rattle.job_text.specs.Printed.{decimalIn, decimal, furtherText, listText, shown, Put}
 
 -- ---- one text after another
@@ -124,3 +126,49 @@ digits-few (suc d) (suc k) n l =
 
 pub decimal-few : (n : ℕ) → n < 2 ^ 32 → length (decimal n) ≤ 10
 decimal-few n l = digits-few 9 n n (omega arith)
+
+-- ---- a list, number by number
+
+further-append : (xs : List ℕ) (x : ℕ) → furtherText (xs ++ (x ∷ [])) ≡ furtherText xs ++ (comma ∷ decimal x)
+unfolding furtherText
+further-append [] x = append-nil (comma ∷ decimal x)
+further-append (y ∷ ys) x = ap (λ (t : List ℕ). (comma ∷ decimal y) ++ t) (further-append ys x) ∙ sym (append-assoc (comma ∷ decimal y) (furtherText ys) (comma ∷ decimal x))
+
+pub further-none : (out : List ℕ) (at : ℕ) → Put out out at (furtherText []) at
+unfolding furtherText
+further-none out at = record { cells = refl; next = sym (add-zero at) }
+
+pub further-more : {out mid out' : List ℕ} {at m r : ℕ} (cells : List ℕ) (i : ℕ) → i < length cells → Put out mid at (furtherText (take i cells)) m
+    → Put mid out' m (comma ∷ decimal (getD cells i 0)) r → Put out out' at (furtherText (take (i + 1) cells)) r
+further-more cells i l p q =
+    rw (add-one i, take-suc cells i 0 l, further-append (take i cells) (getD cells i 0)) (put-both p q)
+
+pub further-whole : {out out' : List ℕ} {at r : ℕ} (cells : List ℕ) (i : ℕ) → i ≡ length cells → Put out out' at (furtherText (take i cells)) r
+    → Put out out' at (furtherText cells) r
+further-whole cells i e p = rw (e, take-length cells) at p
+
+-- eleven bytes for each number: its comma and at most ten digits
+pub further-few : (xs : List ℕ) → ((i : ℕ) → getD xs i 0 < 2 ^ 32) → length (furtherText xs) ≤ 11 * length xs
+unfolding furtherText
+further-few [] h = omega arith
+further-few (x ∷ xs) h =
+    omega (arith, length-append (comma ∷ decimal x) (furtherText xs), decimal-few x (h 0), further-few xs (λ i. h (suc i)))
+
+pub list-few : (xs : List ℕ) → ((i : ℕ) → getD xs i 0 < 2 ^ 32) → length (listText xs) ≤ 11 * length xs + 1
+list-few [] h = omega arith
+list-few (x ∷ xs) h =
+    omega (arith, length-append (decimal x) (furtherText xs), decimal-few x (h 0), further-few xs (λ i. h (suc i)))
+
+pub list-none : (xs : List ℕ) → length xs ≡ 0 → listText xs ≡ dash
+list-none [] e = refl
+list-none (x ∷ xs) e = absurd (omega arith)
+
+pub list-some : (xs : List ℕ) → (length xs ≡ 0 → ⊥) → listText xs ≡ decimal (getD xs 0 0) ++ furtherText (part 1 (length xs) xs)
+list-some [] h = absurd (h refl)
+list-some (x ∷ xs) h = rw (take-all (suc (length xs) - 1) xs (omega arith))
+
+pub rest-length : (xs : List ℕ) → length (part 1 (length xs) xs) ≤ length xs - 1
+rest-length xs = omega (arith, length-take (length xs - 1) (drop 1 xs), length-drop 1 xs)
+
+pub shown-length : (key text : List ℕ) → length (shown key text) ≡ length key + length text + 1
+shown-length key text = omega (arith, length-append (key ++ text) (newline ∷ []), length-append key text)

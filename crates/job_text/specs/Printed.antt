@@ -98,15 +98,20 @@ cycleOf (Run prefix cycle pair) = cycle
 cycleOf Empty = 0
 cycleOf (Refused number place) = 0
 
--- verdict, code, place, pair, prefix, cycle
-abbrev pub answerText : Verdict → Acceptance → List ℕ → List ℕ
-answerText v c room =
-    ((((shown verdict= (verdictWord v)
+-- verdict, code, place, pair ..
+unfoldable pub topText : Verdict → Acceptance → List ℕ
+topText v c =
+    ((shown verdict= (verdictWord v)
     ++ shown code= (decimal (codeOf v)))
     ++ shown place= (decimal (placeOf v)))
-    ++ shown pair= (pairText v c))
-    ++ shown prefix= (listText (take (prefixOf v) room)))
-    ++ shown cycle= (listText (take (cycleOf v) (drop (prefixOf v) room)))
+    ++ shown pair= (pairText v c)
+
+-- .. prefix, cycle
+unfoldable pub bottomText : List ℕ → List ℕ → List ℕ
+bottomText prefix cycle = shown prefix= (listText prefix) ++ shown cycle= (listText cycle)
+
+unfoldable pub answerText : Verdict → Acceptance → List ℕ → List ℕ
+answerText v c room = topText v c ++ bottomText (take (prefixOf v) room) (take (cycleOf v) (drop (prefixOf v) room))
 
 -- ---- what writing does
 
@@ -114,6 +119,11 @@ answerText v c room =
 pub record Put (out out' : List ℕ) (at : ℕ) (text : List ℕ) (r : ℕ) : Type 0 where
   pub cells : out' ≡ sets out at text
   pub next : r ≡ at + length text
+
+-- in at most so many bytes
+pub record PutFew (out out' : List ℕ) (at : ℕ) (text : List ℕ) (r most : ℕ) : Type 0 where
+  pub put : Put out out' at text r
+  pub few : r ≤ at + most
 
 -- the text and zeros to the end, if there is room for it; else row 11, and the buffer as it was
 abbrev pub printedOf : List ℕ → ℕ → Printed

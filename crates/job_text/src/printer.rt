@@ -10,7 +10,7 @@ ghost use lib.ListN.{length, take, replicate};
 ghost use mathlib.Core.Bool.{cond};
 ghost use Rattle.job_text.specs.Value.{dash};
 ghost use Rattle.job_text.specs.Text.{newline};
-ghost use Rattle.job_text.specs.Printed.{decimal, furtherText, listText, shown, verdict=, pair=, verdictWord, codeOf, placeOf, isRabin, pairText, prefixOf, cycleOf, answerText, Put, Prints};
+ghost use Rattle.job_text.specs.Printed.{decimal, furtherText, listText, shown, verdict=, pair=, verdictWord, codeOf, placeOf, isRabin, pairText, prefixOf, cycleOf, topText, bottomText, answerText, Put, PutFew, Prints};
 
 // What printing gives: the text's length, or row 11, the buffer being too short.
 pub enum Printed {
@@ -57,7 +57,7 @@ fn put_number(out: &mut [u8], at: usize, n: u32) -> usize
 // A line with a number.
 fn put_numbered(out: &mut [u8], at: usize, key: &[u8], n: u32) -> usize
     requires { ⌜ at + length (now key) < 2 ^ 58 ⌝ }
-    ensures { λ r. ⌜ Put (now (out .entry)) (now (out .exit)) at (shown (now (key .entry)) (decimal n)) r ⌝ }
+    ensures { λ r. ⌜ PutFew (now (out .entry)) (now (out .exit)) at (shown (now (key .entry)) (decimal n)) r (length (now (key .entry)) + 11) ⌝ }
 {
     let value = put_word(out, at, key);
     let end = put_number(out, value, n);
@@ -95,7 +95,7 @@ fn put_list(out: &mut [u8], at: usize, cells: &[u32]) -> usize
 // A line with a list.
 fn put_listed(out: &mut [u8], at: usize, key: &[u8], cells: &[u32]) -> usize
     requires { ⌜ at + length (now key) + 11 * length (now cells) < 2 ^ 56 ⌝ }
-    ensures { λ r. ⌜ Put (now (out .entry)) (now (out .exit)) at (shown (now (key .entry)) (listText (now (cells .entry)))) r ⌝ }
+    ensures { λ r. ⌜ PutFew (now (out .entry)) (now (out .exit)) at (shown (now (key .entry)) (listText (now (cells .entry)))) r (length (now (key .entry)) + 11 * length (now (cells .entry)) + 2) ⌝ }
 {
     let value = put_word(out, at, key);
     let end = put_list(out, value, cells);
@@ -104,7 +104,7 @@ fn put_listed(out: &mut [u8], at: usize, key: &[u8], cells: &[u32]) -> usize
 
 // The verdict's line.
 fn put_verdict(out: &mut [u8], verdict: Verdict) -> usize
-    ensures { λ r. ⌜ Put (now (out .entry)) (now (out .exit)) 0 (shown verdict= (verdictWord verdict)) r ⌝ }
+    ensures { λ r. ⌜ PutFew (now (out .entry)) (now (out .exit)) 0 (shown verdict= (verdictWord verdict)) r 16 ⌝ }
 {
     match verdict {
         Verdict::Run {
@@ -133,7 +133,7 @@ fn is_rabin(condition: Acceptance) -> bool
 // The pair's line of a run.
 fn put_run_pair(out: &mut [u8], at: usize, pair: u32, condition: Acceptance) -> usize
     requires { ⌜ at < 2 ^ 50 ⌝ }
-    ensures { λ r. ⌜ Put (now (out .entry)) (now (out .exit)) at (shown pair= (cond (isRabin condition) (decimal pair) dash)) r ⌝ }
+    ensures { λ r. ⌜ PutFew (now (out .entry)) (now (out .exit)) at (shown pair= (cond (isRabin condition) (decimal pair) dash)) r 16 ⌝ }
 {
     if is_rabin(condition) {
         return put_numbered(out, at, b"pair=", pair);
@@ -144,7 +144,7 @@ fn put_run_pair(out: &mut [u8], at: usize, pair: u32, condition: Acceptance) -> 
 // The pair's line: a number for a Rabin run, else `-`.
 fn put_pair(out: &mut [u8], at: usize, verdict: Verdict, condition: Acceptance) -> usize
     requires { ⌜ at < 2 ^ 50 ⌝ }
-    ensures { λ r. ⌜ Put (now (out .entry)) (now (out .exit)) at (shown pair= (pairText verdict condition)) r ⌝ }
+    ensures { λ r. ⌜ PutFew (now (out .entry)) (now (out .exit)) at (shown pair= (pairText verdict condition)) r 16 ⌝ }
 {
     match verdict {
         Verdict::Empty => put_word(out, at, b"pair=-\n"),
@@ -228,18 +228,33 @@ fn least(a: usize, b: usize) -> usize
     if a < b { a } else { b }
 }
 
+// The verdict's, the code's, the place's and the pair's lines.
+fn put_top(out: &mut [u8], verdict: Verdict, condition: Acceptance) -> usize
+    ensures { λ r. ⌜ PutFew (now (out .entry)) (now (out .exit)) 0 (topText verdict condition) r 100 ⌝ }
+{
+    let code = put_verdict(out, verdict);
+    let place = put_numbered(out, code, b"code=", number_of(verdict));
+    let pair = put_numbered(out, place, b"place=", place_of(verdict));
+    put_pair(out, pair, verdict, condition)
+}
+
+// The prefix's and the cycle's lines.
+fn put_bottom(out: &mut [u8], at: usize, prefix: &[u32], cycle: &[u32]) -> usize
+    requires { ⌜ at + 11 * length (now prefix) + 11 * length (now cycle) < 2 ^ 40 ⌝ }
+    ensures { λ r. ⌜ Put (now (out .entry)) (now (out .exit)) at (bottomText (now (prefix .entry)) (now (cycle .entry))) r ⌝ }
+{
+    let next = put_listed(out, at, b"prefix=", prefix);
+    put_listed(out, next, b"cycle=", cycle)
+}
+
 // The six lines.
 fn put_answer(out: &mut [u8], verdict: Verdict, condition: Acceptance, room: &[u32]) -> usize
     ensures { λ r. ⌜ Put (now (out .entry)) (now (out .exit)) 0 (answerText verdict condition (now (room .entry))) r ⌝ }
 {
     let knot = least(prefix_of(verdict) as usize, room.len());
     let end = knot + least(cycle_of(verdict) as usize, room.len() - knot);
-    let code = put_verdict(out, verdict);
-    let place = put_numbered(out, code, b"code=", number_of(verdict));
-    let pair = put_numbered(out, place, b"place=", place_of(verdict));
-    let prefix = put_pair(out, pair, verdict, condition);
-    let cycle = put_listed(out, prefix, b"prefix=", &room[0..knot]);
-    put_listed(out, cycle, b"cycle=", &room[knot..end])
+    let lists = put_top(out, verdict, condition);
+    put_bottom(out, lists, &room[0..knot], &room[knot..end])
 }
 
 // Zeros from a place on.

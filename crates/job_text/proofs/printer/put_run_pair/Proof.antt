@@ -1,48 +1,36 @@
+-- `printer::put_run_pair` meets its contract: the test is the rule's. Assumes nothing.
 use native.Mathlib.Omega.{arith}
 use borrow.Author.Needs.{needs}
 use Rattle.job_text.proofs.printer.put_run_pair.Statement.{statement}
 use Rattle.job_text.proofs.printer.put_run_pair.Tie as tie
-use Rattle.job_text.proofs.printer.put_run_pair.Reads as reads
-use Rattle.job_text.proofs.printer.put_run_pair.Lts as lts
-use Rattle.job_text.proofs.printer.is_rabin.Reads as is-rabin-reads
-use Rattle.job_text.proofs.printer.put_numbered.Reads as put-numbered-reads
-use Rattle.job_text.proofs.printer.put_word.Reads as put-word-reads
 
--- src/printer.rt:138:8
 is-rabin-requires : tie.Need-is-rabin-requires
 is-rabin-requires c κs = search needs
 
--- src/printer.rt:139:38
 slice-aggregate-put-numbered : tie.Need-slice-aggregate-put-numbered
 slice-aggregate-put-numbered c = search needs
 
--- src/printer.rt:139:9
 put-numbered-requires : tie.Need-put-numbered-requires
 put-numbered-requires c κs = search needs
 
--- src/printer.rt:139:9
 same-length : tie.Need-same-length
 same-length c = search needs
 
--- src/printer.rt:139:9
 returns : tie.Need-returns
-returns c = search needs
+returns c = rw (← c .before .before .before .before .before .before .is-rabin .ensures, c .before .before .before .before .before .if1 .taken) (c .before .before .put-numbered .ensures)
 
--- src/printer.rt:141:23
 slice-aggregate-put-word : tie.Need-slice-aggregate-put-word
 slice-aggregate-put-word c = search needs
 
--- src/printer.rt:141:5
 put-word-requires : tie.Need-put-word-requires
 put-word-requires c κs = search needs
 
--- src/printer.rt:134:1
 same-length-2 : tie.Need-same-length-2
 same-length-2 c = search needs
 
--- src/printer.rt:134:1
 returns-2 : tie.Need-returns-2
-returns-2 c = search needs
+returns-2 c =
+    rw (← c .before .before .before .before .before .before .is-rabin .ensures, c .before .before .before .before .before .if1 .left) (record { put = c .before .before .put-word .ensures; few = omega (arith, c .before .before .put-word .ensures .next) })
 
 pub put-run-pair-spec : {M : Type 1} → statement M
 put-run-pair-spec =

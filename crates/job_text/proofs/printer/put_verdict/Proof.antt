@@ -1,70 +1,53 @@
+-- `printer::put_verdict` meets its contract, case by case. Assumes nothing.
 use native.Mathlib.Omega.{arith}
 use borrow.Author.Needs.{needs}
 use Rattle.job_text.proofs.printer.put_verdict.Statement.{statement}
 use Rattle.job_text.proofs.printer.put_verdict.Tie as tie
-use Rattle.job_text.proofs.printer.put_verdict.Reads as reads
-use Rattle.job_text.proofs.printer.put_verdict.Lts as lts
-use Rattle.job_text.proofs.printer.put_word.Reads as put-word-reads
 
--- src/printer.rt:114:23
 enum-told : tie.Need-enum-told
 enum-told c = search needs
 
--- src/printer.rt:114:31
 slice-aggregate-put-word : tie.Need-slice-aggregate-put-word
 slice-aggregate-put-word c = search needs
 
--- src/printer.rt:114:14
 put-word-requires : tie.Need-put-word-requires
 put-word-requires c κs = search needs
 
--- src/printer.rt:115:36
 enum-told-2 : tie.Need-enum-told-2
 enum-told-2 c = search needs
 
--- src/printer.rt:115:44
 slice-aggregate-put-word-2 : tie.Need-slice-aggregate-put-word-2
 slice-aggregate-put-word-2 c = search needs
 
--- src/printer.rt:115:27
 put-word-requires-2 : tie.Need-put-word-requires-2
 put-word-requires-2 c κs = search needs
 
--- src/printer.rt:119:23
 enum-told-3 : tie.Need-enum-told-3
 enum-told-3 c = search needs
 
--- src/printer.rt:119:31
 slice-aggregate-put-word-3 : tie.Need-slice-aggregate-put-word-3
 slice-aggregate-put-word-3 c = search needs
 
--- src/printer.rt:119:14
 put-word-requires-3 : tie.Need-put-word-requires-3
 put-word-requires-3 c κs = search needs
 
--- src/printer.rt:106:1
 same-length : tie.Need-same-length
 same-length c = search needs
 
--- src/printer.rt:106:1
 returns : tie.Need-returns
-returns c = search needs
+returns c = rw (c .before .before .before .before .before .enum-told .given .1) (record { put = c .before .before .put-word .ensures; few = omega (arith, c .before .before .put-word .ensures .next) })
 
--- src/printer.rt:106:1
 same-length-2 : tie.Need-same-length-2
 same-length-2 c = search needs
 
--- src/printer.rt:106:1
 returns-2 : tie.Need-returns-2
-returns-2 c = search needs
+returns-2 c = rw (c .before .before .before .before .before .enum-told2 .given .1) (record { put = c .before .before .put-word2 .ensures; few = omega (arith, c .before .before .put-word2 .ensures .next) })
 
--- src/printer.rt:106:1
 same-length-3 : tie.Need-same-length-3
 same-length-3 c = search needs
 
--- src/printer.rt:106:1
 returns-3 : tie.Need-returns-3
-returns-3 c = search needs
+returns-3 c = rw (c .before .before .before .before .before .enum-told3 .given .1) (record { put = c .before .before .put-word3 .ensures; few = omega (arith, c .before .before .put-word3 .ensures .next) })
 
 pub put-verdict-spec : {M : Type 1} → statement M
 put-verdict-spec =

@@ -7,4 +7,3 @@ pub mod Lines
 pub mod Heads
 pub mod Bodies
 pub mod Jobs
-pub mod Puts

@@ -3,6 +3,5 @@
 // what is printed in specs/Printed.antt.
 mod line;
 mod part;
-pub mod printer;
 pub mod reader;
 mod value;

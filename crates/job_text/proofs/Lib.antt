@@ -7,3 +7,4 @@ pub mod Lines
 pub mod Heads
 pub mod Bodies
 pub mod Jobs
+pub mod Puts

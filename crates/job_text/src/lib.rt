@@ -3,5 +3,6 @@
 // what is printed in specs/Printed.antt.
 mod line;
 mod part;
+pub mod printer;
 pub mod reader;
 mod value;

@@ -109,12 +109,12 @@ fn one_text(length: usize) {
     if 24576 < length {
         return;
     }
-    let got = io::read_full(0, &mut text[..length]);
+    let got = io::read_full(0, &mut text[0..length]);
     if got != length {
         print(b"cut off\n");
         return;
     }
-    print_reading(&text[..length]);
+    print_reading(&text[0..length]);
 }
 
 fn main() {

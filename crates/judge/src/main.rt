@@ -26,7 +26,7 @@ fn show(answer: Answer, condition: Acceptance, room: &[u32]) {
     let printed = print(answer, condition, room, &mut out);
     if let Printed::Text { length } = printed {
         if length <= 40000 {
-            io::write_all(1, &out[..length]);
+            io::write_all(1, &out[0..length]);
         }
     }
 }
@@ -56,9 +56,9 @@ fn judge_text(text: &[u8]) {
     let answer = judging::judge(
         job.states,
         job.start,
-        &from[..m],
-        &to[..m],
-        &marks[..m],
+        &from[0..m],
+        &to[0..m],
+        &marks[0..m],
         condition,
         needs,
         &mut room,
@@ -73,5 +73,5 @@ fn main() {
     if got == 12289 {
         drain();
     }
-    judge_text(&text[..got]);
+    judge_text(&text[0..got]);
 }

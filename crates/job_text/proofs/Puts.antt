@@ -2,19 +2,20 @@
 use mathlib.Core.Path.{_≡_, refl, sym, ap, _∙_}
 use mathlib.Core.Bool.{true, false, cond}
 use mathlib.Core.List.{List, [], _∷_, _++_, append-nil, append-assoc}
-use Prim.Native.Nat.{ℕ, zero, suc, _+_, _-_, _*_, _/_, _%_, _^_, _≤_, _<_}
+use Prim.Native.Nat.{ℕ, zero, suc, _+_, _-_, _*_, _/_, _%_, _^_, _≤_, _<_, min}
 use native.Mathlib.Nat.{pow-suc, add-zero}
 use native.Mathlib.Numerals.{add-one}
 use native.Mathlib.Omega.{arith}
 use lib.Dec.{ltb}
-use lib.ListN.{length, getD, take, drop, set, length-append, length-set, length-take, length-drop, length-replicate, take-append-drop, replicate, replicate-append-replicate}
-use lib.Seq.{sets, sets-eq, length-sets, set-out, take-suc, length-take-le, take-length, take-all, drop-length, drop-cons, set-at}
-use borrow.Author.Tests.{lt-ltb, le-ltb}
+use lib.ListN.{length, getD, take, drop, set, length-append, length-set, length-take, length-drop, length-replicate, take-append-drop, drop-of-length-le, replicate, replicate-append-replicate}
+use lib.Seq.{sets, sets-eq, length-sets, set-out, take-suc, length-take-le, take-length, take-all, drop-length, drop-cons, set-at, take-at}
+use borrow.Author.Tests.{lt-ltb, le-ltb, lt-leb, le-leb}
 use Rattle.marks.proofs.Cases.{below}
 use Rattle.table.specs.Row.{part}
 use Rattle.job_text.specs.Text.{comma, newline}
 use Rattle.job_text.specs.Value.{dash}
-use Rattle.job_text.specs.Printed.{decimalIn, decimal, furtherText, listText, shown, Put}
+use Rattle.job_text.specs.Printed.{decimalIn, decimal, furtherText, listText, shown, bottomText, Put, Prints}
+use Rattle.job_text.specs.declared.printer.Printed.the-variants as printed
 
 -- ---- one text after another
 
@@ -29,9 +30,10 @@ put-none out at = record { cells = refl; next = refl }
 
 pub put-both : {out mid out' : List ℕ} {at m r : ℕ} {a b : List ℕ} → Put out mid at a m → Put mid out' m b r → Put out out' at (a ++ b) r
 put-both {out} {mid} {out'} {at} {m} {r} {a} {b} p q =
-    record
-    { cells = q .cells ∙ rw (p .cells, p .next) (sets-append out at a b)
-    ; next = omega (arith, p .next, q .next, length-append a b) }
+    record {
+      cells = q .cells ∙ rw (p .cells, p .next) (sets-append out at a b);
+      next = omega (arith, p .next, q .next, length-append a b);
+    }
 
 -- a byte: written where there is room, and counted
 pub put-in : (out : List ℕ) (at b : ℕ) → Put out (set out at b) at (b ∷ []) (at + 1)
@@ -60,13 +62,19 @@ clear-none out from = let e : from - from ≡ 0 = omega arith in rw e (sym (take
 
 pub clear-length : (out : List ℕ) (from i : ℕ) → from ≤ i → i ≤ length out → length (cleared out from i) ≡ length out
 clear-length out from i l h =
-    omega (arith, length-append (take from out) (replicate (i - from) 0 ++ drop i out), length-append (replicate (i - from) 0) (drop i out),
-      length-take-le from out (omega arith), length-replicate {A = ℕ} (i - from) 0, length-drop i out)
+    omega (
+      arith,
+      length-append (take from out) (replicate (i - from) 0 ++ drop i out),
+      length-append (replicate (i - from) 0) (drop i out),
+      length-take-le from out (omega arith),
+      length-replicate {A = ℕ} (i - from) 0,
+      length-drop i out,
+    )
 
 pub clear-more : (out : List ℕ) (from i : ℕ) → from ≤ i → i < length out → set (cleared out from i) i 0 ≡ cleared out from (i + 1)
 clear-more out from i l h =
     let n : length (take from out ++ replicate (i - from) 0) ≡ i =
-        omega (arith, length-append (take from out) (replicate (i - from) 0), length-take-le from out (omega arith), length-replicate {A = ℕ} (i - from) 0) in
+    omega (arith, length-append (take from out) (replicate (i - from) 0), length-take-le from out (omega arith), length-replicate {A = ℕ} (i - from) 0) in
     let q : i + 1 - from ≡ i - from + 1 = omega arith in
     rw (drop-cons out i 0 h, ← append-assoc (take from out) (replicate (i - from) 0) (getD out i 0 ∷ drop (suc i) out))
     (set-at (take from out ++ replicate (i - from) 0) (getD out i 0) (drop (suc i) out) 0 i n
@@ -114,8 +122,8 @@ digits-few zero (suc k) n l = rw (one (suc k) n (omega (arith, l))) (omega arith
 digits-few (suc d) (suc k) n l =
     below n 10 (λ s. rw (one (suc k) n s) (omega arith))
     (λ s.
-      let h : n / 10 < 10 ^ suc d = omega (arith, pow-suc 10 (suc d)) in
-      omega (arith, ap length (more k n s), length-append (decimalIn k (n / 10)) ((48 + n % 10) ∷ []), digits-few d k (n / 10) h))
+    let h : n / 10 < 10 ^ suc d = omega (arith, pow-suc 10 (suc d)) in
+    omega (arith, ap length (more k n s), length-append (decimalIn k (n / 10)) ((48 + n % 10) ∷ []), digits-few d k (n / 10) h))
 
 pub decimal-few : (n : ℕ) → n < 2 ^ 32 → length (decimal n) ≤ 10
 decimal-few n l = digits-few 9 n n (omega arith)
@@ -165,3 +173,47 @@ rest-length xs = omega (arith, length-take (length xs - 1) (drop 1 xs), length-d
 
 pub shown-length : (key text : List ℕ) → length (shown key text) ≡ length key + length text + 1
 shown-length key text = omega (arith, length-append (key ++ text) (newline ∷ []), length-append key text)
+
+-- ---- the cells of the room that are there
+
+take-min : (k : ℕ) (xs : List ℕ) → take (min k (length xs)) xs ≡ take k xs
+take-min k xs =
+    below k (length xs) (λ l. let e : min k (length xs) ≡ k = omega arith in rw e)
+    (λ l. let e : min k (length xs) ≡ length xs = omega arith in rw (e, take-length xs, take-all k xs l))
+
+drop-min : (k : ℕ) (xs : List ℕ) → drop (min k (length xs)) xs ≡ drop k xs
+drop-min k xs =
+    below k (length xs) (λ l. let e : min k (length xs) ≡ k = omega arith in rw e)
+    (λ l. let e : min k (length xs) ≡ length xs = omega arith in rw (e, drop-length xs) (sym (drop-of-length-le xs l)))
+
+pub lists-there : (room : List ℕ) (p c knot rest : ℕ) → knot ≡ min p (length room) → rest ≡ min c (length room - knot)
+    → bottomText (part 0 knot room) (part knot (knot + rest) room) ≡ bottomText (take p room) (take c (drop p room))
+lists-there room p c knot rest e f =
+    let a : knot - 0 ≡ min p (length room) = omega arith in
+    let b : knot + rest - knot ≡ min c (length (drop knot room)) = omega (arith, length-drop knot room) in
+    let d : drop knot room ≡ drop p room = rw e (drop-min p room) in
+    rw (a, take-min p room, b, take-min c (drop knot room), d)
+
+-- ---- the whole answer
+
+no-cells : (ys : List ℕ) → length ys ≡ 0 → ys ≡ []
+no-cells [] e = refl
+no-cells (y ∷ ys) e = absurd (omega arith)
+
+pub printed-short : (text out ys : List ℕ) (n : ℕ) → length ys ≡ 0 → n ≡ 0 + length text → length (ys ++ out) < n → Prints text out (ys ++ out) (printed.Refused 11 0)
+printed-short text out ys n e q l =
+    let s : length out < length text = omega (arith, length-append ys out) in
+    rw (no-cells ys e) (record { answer = rw (lt-leb (length text) (length out) s); buffer = rw (lt-leb (length text) (length out) s) })
+
+pub printed-whole : (text out ys out' out'' : List ℕ) (n : ℕ) → length ys ≡ 0 → n ≡ 0 + length text → n ≤ length (ys ++ out) → out' ≡ sets (ys ++ out) 0 text
+    → out'' ≡ take n out' ++ replicate (length out' - n) 0 → Prints text out out'' (printed.Text n)
+printed-whole text out ys out' out'' n e q l p z =
+    let m : n ≡ length text = omega arith in
+    let s : length text ≤ length out = omega (arith, length-append ys out) in
+    let w : out' ≡ sets out 0 text = p ∙ rw (no-cells ys e) in
+    let v : take (length text) out' ≡ text = rw (w, sets-eq text out 0 (omega arith)) (take-at text _ (length text) refl) in
+    let k : length out' ≡ length out = ap length w ∙ length-sets out 0 text in
+    record {
+      answer = rw (le-leb (length text) (length out) s, m);
+      buffer = rw (le-leb (length text) (length out) s, z, m, v, k);
+    }

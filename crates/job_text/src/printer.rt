@@ -198,7 +198,10 @@ fn prefix_of(verdict: Verdict) -> u32
             pair: _,
         } => prefix,
         Verdict::Empty => 0,
-        Verdict::Refused { number: _, place: _ } => 0,
+        Verdict::Refused {
+            number: _,
+            place: _,
+        } => 0,
     }
 }
 
@@ -212,7 +215,10 @@ fn cycle_of(verdict: Verdict) -> u32
             pair: _,
         } => cycle,
         Verdict::Empty => 0,
-        Verdict::Refused { number: _, place: _ } => 0,
+        Verdict::Refused {
+            number: _,
+            place: _,
+        } => 0,
     }
 }
 

@@ -32,11 +32,12 @@ loop-less c = search needs
 loop-again : tie.Need-loop-again Inv-loop μ-loop
 loop-again c =
     let a = c .before .before .args in
-    let l = c .before .loop in
-    ( omega arith
-    , omega arith
-    , length-set (l .out) (l .i) 0 ∙ l .inv .2
-    , ap (λ o. set o (l .i) 0) (l .inv .3) ∙ clear-more (now (a .out)) (a .from) (l .i) (l .inv .0) (omega arith))
+    let l = c .before .loop in (
+      omega arith,
+      omega arith,
+      length-set (l .out) (l .i) 0 ∙ l .inv .2,
+      ap (λ o. set o (l .i) 0) (l .inv .3) ∙ clear-more (now (a .out)) (a .from) (l .i) (l .inv .0) (omega arith),
+    )
 
 same-length : tie.Need-same-length Inv-loop μ-loop
 same-length c = c .before .loop .inv .2

@@ -1,51 +1,48 @@
+-- `printer::print` meets its contract: writing into no cells gives the text's length, and where the buffer is long enough the text is written
+-- and zeros after it (`printed-whole`). Assumes nothing.
+use denote.Ref.{now}
+use Rattle.job_text.proofs.Puts.{printed-short, printed-whole}
 use native.Mathlib.Omega.{arith}
 use borrow.Author.Needs.{needs}
 use Rattle.job_text.proofs.printer.print.Statement.{statement}
 use Rattle.job_text.proofs.printer.print.Tie as tie
-use Rattle.job_text.proofs.printer.print.Reads as reads
-use Rattle.job_text.proofs.printer.print.Lts as lts
-use Rattle.job_text.proofs.printer.clear.Reads as clear-reads
-use Rattle.job_text.proofs.printer.put_answer.Reads as put-answer-reads
 
--- src/printer.rt:271:29
 sub-put-answer : tie.Need-sub-put-answer
 sub-put-answer c = search needs
 
--- src/printer.rt:271:29
 part-put-answer-start : tie.Need-part-put-answer-start
 part-put-answer-start c = search needs
 
--- src/printer.rt:271:29
 part-put-answer-end : tie.Need-part-put-answer-end
 part-put-answer-end c = search needs
 
--- src/printer.rt:271:9
 put-answer-requires : tie.Need-put-answer-requires
 put-answer-requires c κs = search needs
 
--- src/printer.rt:273:9
 same-length : tie.Need-same-length
 same-length c = search needs
 
--- src/printer.rt:273:9
 returns : tie.Need-returns
-returns c = search needs
+returns c =
+    let out = now (c .before .before .before .before .before .before .before .args .out) in
+    let p = c .before .before .before .put-answer in
+    printed-short _ out (p .last .0) (p .result) (p .kept .0) (p .ensures .next) (c .if1 .taken)
 
--- src/printer.rt:278:5
 put-answer-requires-2 : tie.Need-put-answer-requires-2
 put-answer-requires-2 c κs = search needs
 
--- src/printer.rt:279:5
 clear-requires : tie.Need-clear-requires
 clear-requires c κs = search needs
 
--- src/printer.rt:267:1
 same-length-2 : tie.Need-same-length-2
 same-length-2 c = search needs
 
--- src/printer.rt:267:1
 returns-2 : tie.Need-returns-2
-returns-2 c = search needs
+returns-2 c =
+    let out = now (c .before .before .before .before .before .before .before .before .before .before .before .before .before .before .before .args .out) in
+    let p = c .before .before .before .before .before .before .before .before .before .before .before .put-answer in
+    printed-whole _ out (p .last .0) (c .before .before .before .before .before .before .put-answer2 .last .0) _ (p .result) (p .kept .0) (p .ensures .next) (c .before .before .before .before .before .before .before .before .if1 .left)
+    (c .before .before .before .before .before .before .put-answer2 .ensures .cells) (c .before .before .clear .ensures)
 
 pub print-spec : {M : Type 1} → statement M
 print-spec =

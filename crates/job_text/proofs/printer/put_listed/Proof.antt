@@ -24,10 +24,11 @@ same-length c = search needs
 returns : tie.Need-returns
 returns c =
     let cells = now (c .before .before .before .before .before .before .before .before .before .before .before .before .before .before .before .args .cells) in
-    record
-    { put = put-both (put-both (c .before .before .before .before .before .before .before .before .before .before .put-word .ensures) (c .before .before .before .before .before .before .put-list .ensures)) (c .before .before .put .ensures)
-    ; few =
-        omega (arith, c .before .before .before .before .before .before .before .before .before .before .put-word .ensures .next, c .before .before .before .before .before .before .put-list .ensures .next, c .before .before .put .ensures .next, list-few cells (λ i. omega (arith, c .before .before .before .before .before .before .before .before .before .before .before .before .shared-slice-known2 .given i))) }
+    record {
+      put = put-both (put-both (c .before .before .before .before .before .before .before .before .before .before .put-word .ensures) (c .before .before .before .before .before .before .put-list .ensures)) (c .before .before .put .ensures);
+      few =
+          omega (arith, c .before .before .before .before .before .before .before .before .before .before .put-word .ensures .next, c .before .before .before .before .before .before .put-list .ensures .next, c .before .before .put .ensures .next, list-few cells (λ i. omega (arith, c .before .before .before .before .before .before .before .before .before .before .before .before .shared-slice-known2 .given i)));
+    }
 
 pub put-listed-spec : {M : Type 1} → statement M
 put-listed-spec =

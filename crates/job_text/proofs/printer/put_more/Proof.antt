@@ -45,11 +45,12 @@ loop-again c =
     let l = c .before .before .before .before .before .before .before .before .before .before .loop in
     let p = c .before .before .before .before .before .before .put in
     let n = c .before .before .put-number in
-    let small : getD (now (a .cells)) (l .i) 0 < 2 ^ 32 = omega (arith, c .before .before .before .before .before .before .before .before .shared-slice-known2 .given (l .i)) in
-    ( omega arith
-    , n .kept .0 ∙ p .kept .0 ∙ l .inv .1
-    , further-more (now (a .cells)) (l .i) (omega arith) (l .inv .2) (put-both (p .ensures) (n .ensures))
-    , omega (arith, n .ensures .next, p .ensures .next, l .inv .3, decimal-few (getD (now (a .cells)) (l .i) 0) small))
+    let small : getD (now (a .cells)) (l .i) 0 < 2 ^ 32 = omega (arith, c .before .before .before .before .before .before .before .before .shared-slice-known2 .given (l .i)) in (
+      omega arith,
+      n .kept .0 ∙ p .kept .0 ∙ l .inv .1,
+      further-more (now (a .cells)) (l .i) (omega arith) (l .inv .2) (put-both (p .ensures) (n .ensures)),
+      omega (arith, n .ensures .next, p .ensures .next, l .inv .3, decimal-few (getD (now (a .cells)) (l .i) 0) small),
+    )
 
 same-length : tie.Need-same-length Inv-loop μ-loop
 same-length c = c .before .loop .inv .1

@@ -22,9 +22,10 @@ same-length c = search needs
 returns : tie.Need-returns
 returns c =
     let start = c .before .before .before .before .before .before .before .before .before .before .before .before .before .before in
-    record
-    { put = put-both (put-both (c .before .before .before .before .before .before .before .before .before .before .put-word .ensures) (c .before .before .before .before .before .before .put-number .ensures)) (c .before .before .put .ensures)
-    ; few = omega (arith, c .before .before .before .before .before .before .before .before .before .before .put-word .ensures .next, c .before .before .before .before .before .before .put-number .ensures .next, c .before .before .put .ensures .next, decimal-few (start .args .n) (start .fits .n .fits)) }
+    record {
+      put = put-both (put-both (c .before .before .before .before .before .before .before .before .before .before .put-word .ensures) (c .before .before .before .before .before .before .put-number .ensures)) (c .before .before .put .ensures);
+      few = omega (arith, c .before .before .before .before .before .before .before .before .before .before .put-word .ensures .next, c .before .before .before .before .before .before .put-number .ensures .next, c .before .before .put .ensures .next, decimal-few (start .args .n) (start .fits .n .fits));
+    }
 
 pub put-numbered-spec : {M : Type 1} → statement M
 put-numbered-spec =

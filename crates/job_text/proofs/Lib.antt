@@ -1,0 +1,13 @@
+pub mod Table
+pub mod Pad
+pub mod Text
+pub mod Values
+pub mod Needs
+pub mod Lines
+pub mod Heads
+pub mod Bodies
+pub mod Jobs
+pub mod Puts
+pub mod Room
+pub mod Promises
+pub mod Examples

@@ -1,0 +1,206 @@
+-- Writing one text after another, and how long the texts are. Assumes nothing.
+use mathlib.Core.Path.{_≡_, refl, sym, ap, _∙_}
+use mathlib.Core.List.{List, [], _∷_, _++_, append-nil, append-assoc}
+use Prim.Native.Nat.{ℕ, zero, suc, _+_, _-_, _*_, _/_, _%_, _^_, _≤_, _<_, min}
+use native.Mathlib.Nat.{pow-suc, add-zero}
+use native.Mathlib.Numerals.{add-one}
+use native.Mathlib.Omega.{arith}
+use lib.ListN.{length, getD, take, drop, set, length-append, length-take, length-drop, length-replicate, take-append-drop, drop-of-length-le, replicate, replicate-append-replicate}
+use lib.Seq.{sets, sets-eq, length-sets, set-out, take-suc, length-take-le, take-length, take-all, drop-length, drop-cons, set-at, take-at}
+use borrow.Author.Tests.{lt-ltb, le-ltb, lt-leb, le-leb}
+use Rattle.marks.proofs.Cases.{below}
+use Rattle.table.specs.Row.{part}
+use Rattle.job_text.specs.Text.{comma, newline}
+use Rattle.job_text.specs.Value.{dash}
+use Rattle.job_text.specs.Printed.{decimalIn, decimal, furtherText, listText, shown, bottomText, Put, Prints}
+use Rattle.job_text.specs.declared.printer.Printed.the-variants as printed
+
+-- ---- one text after another
+
+sets-append : (l : List ℕ) (i : ℕ) (a b : List ℕ) → sets (sets l i a) (i + length a) b ≡ sets l i (a ++ b)
+sets-append l i [] b = rw (add-zero i)
+sets-append l i (x ∷ a) b =
+    let e : i + suc (length a) ≡ suc i + length a = omega arith in
+    rw e (sets-append (set l i x) (suc i) a b)
+
+pub put-none : (out : List ℕ) (at : ℕ) → Put out out at [] (at + 0)
+put-none out at = record { cells = refl; next = refl }
+
+pub put-both : {out mid out' : List ℕ} {at m r : ℕ} {a b : List ℕ} → Put out mid at a m → Put mid out' m b r → Put out out' at (a ++ b) r
+put-both {out} {mid} {out'} {at} {m} {r} {a} {b} p q =
+    record {
+      cells = q .cells ∙ rw (p .cells, p .next) (sets-append out at a b);
+      next = omega (arith, p .next, q .next, length-append a b);
+    }
+
+-- a byte: written where there is room, and counted
+pub put-in : (out : List ℕ) (at b : ℕ) → Put out (set out at b) at (b ∷ []) (at + 1)
+put-in out at b = record { cells = refl; next = refl }
+
+pub put-out : (out : List ℕ) (at b : ℕ) → length out ≤ at → Put out out at (b ∷ []) (at + 1)
+put-out out at b l = record { cells = sym (set-out out at b l); next = refl }
+
+-- a word, byte by byte
+pub word-more : (out mid out' : List ℕ) (at i r : ℕ) (word : List ℕ) → i < length word → Put out mid at (take i word) (at + i) → Put mid out' (at + i) (getD word i 0 ∷ []) r
+    → Put out out' at (take (i + 1) word) (at + (i + 1))
+word-more out mid out' at i r word l p q =
+    rw (add-one i, take-suc word i 0 l) (let b = put-both p q in record { cells = b .cells; next = omega (arith, q .next, b .next) })
+
+pub word-whole : {out out' : List ℕ} (at i : ℕ) (word : List ℕ) → i ≡ length word → Put out out' at (take i word) (at + i) → Put out out' at word (at + length word)
+word-whole at i word e p = rw (e, take-length word) at p
+
+-- ---- zeros to the end
+
+-- the cells from a place up to i are 0, those after it as they were
+abbrev pub cleared : List ℕ → ℕ → ℕ → List ℕ
+cleared out from i = take from out ++ (replicate (i - from) 0 ++ drop i out)
+
+pub clear-none : (out : List ℕ) (from : ℕ) → out ≡ cleared out from from
+clear-none out from = let e : from - from ≡ 0 = omega arith in rw e (sym (take-append-drop from out))
+
+pub clear-more : (out : List ℕ) (from i : ℕ) → from ≤ i → i < length out → set (cleared out from i) i 0 ≡ cleared out from (i + 1)
+clear-more out from i l h =
+    let n : length (take from out ++ replicate (i - from) 0) ≡ i =
+    omega (arith, length-append (take from out) (replicate (i - from) 0), length-take-le from out (omega arith), length-replicate {A = ℕ} (i - from) 0) in
+    let q : i + 1 - from ≡ i - from + 1 = omega arith in
+    rw (drop-cons out i 0 h, ← append-assoc (take from out) (replicate (i - from) 0) (getD out i 0 ∷ drop (suc i) out))
+    (set-at (take from out ++ replicate (i - from) 0) (getD out i 0) (drop (suc i) out) 0 i n
+    ∙ rw (q, ← replicate-append-replicate {A = ℕ} (i - from) 1 0, append-assoc, append-assoc, add-one))
+
+pub clear-all : (out : List ℕ) (from i : ℕ) → i ≡ length out → cleared out from i ≡ take from out ++ replicate (length out - from) 0
+clear-all out from i e = rw (e, drop-length out, append-nil)
+
+-- ---- digits
+
+one : (k n : ℕ) → n < 10 → decimalIn k n ≡ (48 + n) ∷ []
+unfolding decimalIn
+one zero n l = let e : n % 10 ≡ n = omega arith in rw e
+one (suc k) n l = rw (lt-ltb n 10 l)
+
+more : (k n : ℕ) → 10 ≤ n → decimalIn (suc k) n ≡ decimalIn k (n / 10) ++ ((48 + n % 10) ∷ [])
+unfolding decimalIn
+more k n l = rw (le-ltb n 10 l)
+
+-- digits enough are enough
+fuel : (k j n : ℕ) → n ≤ k → n ≤ j → decimalIn k n ≡ decimalIn j n
+fuel zero j n l h = one 0 n (omega arith) ∙ sym (one j n (omega arith))
+fuel (suc k) zero n l h = one (suc k) n (omega arith) ∙ sym (one 0 n (omega arith))
+fuel (suc k) (suc j) n l h =
+    below n 10 (λ s. one (suc k) n s ∙ sym (one (suc j) n s))
+    (λ s. more k n s ∙ rw (fuel k j (n / 10) (omega arith) (omega arith)) (sym (more j n s)))
+
+pub decimal-one : (n : ℕ) → n < 10 → decimal n ≡ (48 + n) ∷ []
+decimal-one n l = one n n l
+
+pub decimal-more : (n : ℕ) → 10 ≤ n → decimal n ≡ decimal (n / 10) ++ ((48 + n % 10) ∷ [])
+decimal-more n l =
+    let e : n ≡ suc (n - 1) = omega arith in
+    ap (λ (k : ℕ). decimalIn k n) e ∙ more (n - 1) n l
+    ∙ ap (λ (ds : List ℕ). ds ++ ((48 + n % 10) ∷ [])) (fuel (n - 1) (n / 10) (n / 10) (omega arith) (omega arith))
+
+last : (n : ℕ) → decimalIn 0 n ≡ (48 + n % 10) ∷ []
+unfolding decimalIn
+last n = refl
+
+-- a number below 10 ^ d has at most d digits
+pub digits-few : (d k n : ℕ) → n < 10 ^ suc d → length (decimalIn k n) ≤ suc d
+digits-few d zero n l = rw (last n) (omega arith)
+digits-few zero (suc k) n l = rw (one (suc k) n (omega (arith, l))) (omega arith)
+digits-few (suc d) (suc k) n l =
+    below n 10 (λ s. rw (one (suc k) n s) (omega arith))
+    (λ s.
+    let h : n / 10 < 10 ^ suc d = omega (arith, pow-suc 10 (suc d)) in
+    omega (arith, ap length (more k n s), length-append (decimalIn k (n / 10)) ((48 + n % 10) ∷ []), digits-few d k (n / 10) h))
+
+pub decimal-few : (n : ℕ) → n < 2 ^ 32 → length (decimal n) ≤ 10
+decimal-few n l = digits-few 9 n n (omega arith)
+
+-- ---- a list, number by number
+
+further-append : (xs : List ℕ) (x : ℕ) → furtherText (xs ++ (x ∷ [])) ≡ furtherText xs ++ (comma ∷ decimal x)
+unfolding furtherText
+further-append [] x = append-nil (comma ∷ decimal x)
+further-append (y ∷ ys) x = ap (λ (t : List ℕ). (comma ∷ decimal y) ++ t) (further-append ys x) ∙ sym (append-assoc (comma ∷ decimal y) (furtherText ys) (comma ∷ decimal x))
+
+pub further-none : (out : List ℕ) (at : ℕ) → Put out out at (furtherText []) at
+unfolding furtherText
+further-none out at = record { cells = refl; next = sym (add-zero at) }
+
+pub further-more : {out mid out' : List ℕ} {at m r : ℕ} (cells : List ℕ) (i : ℕ) → i < length cells → Put out mid at (furtherText (take i cells)) m
+    → Put mid out' m (comma ∷ decimal (getD cells i 0)) r → Put out out' at (furtherText (take (i + 1) cells)) r
+further-more cells i l p q =
+    rw (add-one i, take-suc cells i 0 l, further-append (take i cells) (getD cells i 0)) (put-both p q)
+
+pub further-whole : {out out' : List ℕ} {at r : ℕ} (cells : List ℕ) (i : ℕ) → i ≡ length cells → Put out out' at (furtherText (take i cells)) r
+    → Put out out' at (furtherText cells) r
+further-whole cells i e p = rw (e, take-length cells) at p
+
+-- eleven bytes for each number: its comma and at most ten digits
+pub further-few : (xs : List ℕ) → ((i : ℕ) → getD xs i 0 < 2 ^ 32) → length (furtherText xs) ≤ 11 * length xs
+unfolding furtherText
+further-few [] h = omega arith
+further-few (x ∷ xs) h =
+    omega (arith, length-append (comma ∷ decimal x) (furtherText xs), decimal-few x (h 0), further-few xs (λ i. h (suc i)))
+
+pub list-few : (xs : List ℕ) → ((i : ℕ) → getD xs i 0 < 2 ^ 32) → length (listText xs) ≤ 11 * length xs + 1
+list-few [] h = omega arith
+list-few (x ∷ xs) h =
+    omega (arith, length-append (decimal x) (furtherText xs), decimal-few x (h 0), further-few xs (λ i. h (suc i)))
+
+pub list-none : (xs : List ℕ) → length xs ≡ 0 → listText xs ≡ dash
+list-none [] e = refl
+list-none (x ∷ xs) e = absurd (omega arith)
+
+pub list-some : (xs : List ℕ) → (length xs ≡ 0 → ⊥) → listText xs ≡ decimal (getD xs 0 0) ++ furtherText (part 1 (length xs) xs)
+list-some [] h = absurd (h refl)
+list-some (x ∷ xs) h = rw (take-all (suc (length xs) - 1) xs (omega arith))
+
+pub rest-length : (xs : List ℕ) → length (part 1 (length xs) xs) ≤ length xs - 1
+rest-length xs = omega (arith, length-take (length xs - 1) (drop 1 xs), length-drop 1 xs)
+
+pub shown-length : (key text : List ℕ) → length (shown key text) ≡ length key + length text + 1
+shown-length key text = omega (arith, length-append (key ++ text) (newline ∷ []), length-append key text)
+
+-- ---- the cells of the room that are there
+
+take-min : (k : ℕ) (xs : List ℕ) → take (min k (length xs)) xs ≡ take k xs
+take-min k xs =
+    below k (length xs) (λ l. let e : min k (length xs) ≡ k = omega arith in rw e)
+    (λ l. let e : min k (length xs) ≡ length xs = omega arith in rw (e, take-length xs, take-all k xs l))
+
+drop-min : (k : ℕ) (xs : List ℕ) → drop (min k (length xs)) xs ≡ drop k xs
+drop-min k xs =
+    below k (length xs) (λ l. let e : min k (length xs) ≡ k = omega arith in rw e)
+    (λ l. let e : min k (length xs) ≡ length xs = omega arith in rw (e, drop-length xs) (sym (drop-of-length-le xs l)))
+
+pub lists-there : (room : List ℕ) (p c knot rest : ℕ) → knot ≡ min p (length room) → rest ≡ min c (length room - knot)
+    → bottomText (part 0 knot room) (part knot (knot + rest) room) ≡ bottomText (take p room) (take c (drop p room))
+lists-there room p c knot rest e f =
+    let a : knot - 0 ≡ min p (length room) = omega arith in
+    let b : knot + rest - knot ≡ min c (length (drop knot room)) = omega (arith, length-drop knot room) in
+    let d : drop knot room ≡ drop p room = rw e (drop-min p room) in
+    rw (a, take-min p room, b, take-min c (drop knot room), d)
+
+-- ---- the whole answer
+
+no-cells : (ys : List ℕ) → length ys ≡ 0 → ys ≡ []
+no-cells [] e = refl
+no-cells (y ∷ ys) e = absurd (omega arith)
+
+pub printed-short : (text out ys : List ℕ) (n : ℕ) → length ys ≡ 0 → n ≡ 0 + length text → length (ys ++ out) < n → Prints text out (ys ++ out) (printed.Refused 11 0)
+printed-short text out ys n e q l =
+    let s : length out < length text = omega (arith, length-append ys out) in
+    rw (no-cells ys e) (record { answer = rw (lt-leb (length text) (length out) s); buffer = rw (lt-leb (length text) (length out) s) })
+
+pub printed-whole : (text out ys out' out'' : List ℕ) (n : ℕ) → length ys ≡ 0 → n ≡ 0 + length text → n ≤ length (ys ++ out) → out' ≡ sets (ys ++ out) 0 text
+    → out'' ≡ take n out' ++ replicate (length out' - n) 0 → Prints text out out'' (printed.Text n)
+printed-whole text out ys out' out'' n e q l p z =
+    let m : n ≡ length text = omega arith in
+    let s : length text ≤ length out = omega (arith, length-append ys out) in
+    let w : out' ≡ sets out 0 text = p ∙ rw (no-cells ys e) in
+    let v : take (length text) out' ≡ text = rw (w, sets-eq text out 0 (omega arith)) (take-at text _ (length text) refl) in
+    let k : length out' ≡ length out = ap length w ∙ length-sets out 0 text in
+    record {
+      answer = rw (le-leb (length text) (length out) s, m);
+      buffer = rw (le-leb (length text) (length out) s, z, m, v, k);
+    }

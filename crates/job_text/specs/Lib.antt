@@ -1,0 +1,6 @@
+pub mod Text
+pub mod Value
+pub mod Job
+pub mod Given
+pub mod Reading
+pub mod Printed

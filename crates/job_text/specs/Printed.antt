@@ -1,0 +1,142 @@
+-- The printed answer (document 01, "The job text and the printed answer"). Assumes nothing.
+use mathlib.Core.Path.{_≡_}
+use mathlib.Core.Bool.{Bool, true, false, cond}
+use mathlib.Core.List.{List, [], _∷_, _++_}
+use Prim.Native.Nat.{ℕ, zero, suc, _+_, _-_, _*_, _/_, _%_, _≤_}
+use lib.Dec.{ltb, leb}
+use lib.ListN.{length, take, drop, replicate}
+use lib.Seq.{sets}
+use Rattle.table.specs.declared.Acceptance.{Acceptance}
+use Rattle.table.specs.declared.Acceptance.the-variants.{Buchi, Streett, Rabin}
+use Rattle.table.specs.declared.Verdict.{Verdict}
+use Rattle.table.specs.declared.Verdict.the-variants.{Run, Empty, Refused}
+use Rattle.job_text.specs.declared.printer.Printed.{Printed}
+use Rattle.job_text.specs.declared.printer.Printed.the-variants as printed
+use Rattle.job_text.specs.Text.{newline, comma}
+use Rattle.job_text.specs.Value.{dash}
+
+-- ---- numbers: decimal digits, no leading zeros
+
+-- in at most k + 1 digits
+unfoldable pub decimalIn : ℕ → ℕ → List ℕ
+decimalIn zero n = (48 + n % 10) ∷ []
+decimalIn (suc k) n = cond (ltb n 10) ((48 + n) ∷ []) (decimalIn k (n / 10) ++ ((48 + n % 10) ∷ []))
+
+-- a number has no more digits than itself and one
+abbrev pub decimal : ℕ → List ℕ
+decimal n = decimalIn n n
+
+-- ---- lists: "comma between (`-` if none)"
+
+unfoldable pub furtherText : List ℕ → List ℕ
+furtherText [] = []
+furtherText (x ∷ xs) = (comma ∷ decimal x) ++ furtherText xs
+
+abbrev pub listText : List ℕ → List ℕ
+listText [] = dash
+listText (x ∷ xs) = decimal x ++ furtherText xs
+
+-- ---- the six lines
+
+abbrev pub shown : List ℕ → List ℕ → List ℕ
+shown key text = (key ++ text) ++ (newline ∷ [])
+
+abbrev pub verdict= : List ℕ
+verdict= = 118 ∷ 101 ∷ 114 ∷ 100 ∷ 105 ∷ 99 ∷ 116 ∷ 61 ∷ []
+
+abbrev pub code= : List ℕ
+code= = 99 ∷ 111 ∷ 100 ∷ 101 ∷ 61 ∷ []
+
+abbrev pub place= : List ℕ
+place= = 112 ∷ 108 ∷ 97 ∷ 99 ∷ 101 ∷ 61 ∷ []
+
+abbrev pub pair= : List ℕ
+pair= = 112 ∷ 97 ∷ 105 ∷ 114 ∷ 61 ∷ []
+
+abbrev pub prefix= : List ℕ
+prefix= = 112 ∷ 114 ∷ 101 ∷ 102 ∷ 105 ∷ 120 ∷ 61 ∷ []
+
+abbrev pub cycle= : List ℕ
+cycle= = 99 ∷ 121 ∷ 99 ∷ 108 ∷ 101 ∷ 61 ∷ []
+
+-- "verdict (run, empty, refused)"
+abbrev pub verdictWord : Verdict → List ℕ
+verdictWord (Run prefix cycle pair) = 114 ∷ 117 ∷ 110 ∷ []
+verdictWord Empty = 101 ∷ 109 ∷ 112 ∷ 116 ∷ 121 ∷ []
+verdictWord (Refused number place) = 114 ∷ 101 ∷ 102 ∷ 117 ∷ 115 ∷ 101 ∷ 100 ∷ []
+
+-- "number and place from the table"
+abbrev pub codeOf : Verdict → ℕ
+codeOf (Run prefix cycle pair) = 0
+codeOf Empty = 0
+codeOf (Refused number place) = number
+
+abbrev pub placeOf : Verdict → ℕ
+placeOf (Run prefix cycle pair) = 0
+placeOf Empty = 0
+placeOf (Refused number place) = place
+
+-- "pair (a number for a Rabin run, else `-`)"
+abbrev pub isRabin : Acceptance → Bool
+isRabin (Buchi k) = false
+isRabin (Streett p) = false
+isRabin (Rabin p) = true
+
+abbrev pub pairText : Verdict → Acceptance → List ℕ
+pairText (Run prefix cycle pair) c = cond (isRabin c) (decimal pair) dash
+pairText Empty c = dash
+pairText (Refused number place) c = dash
+
+-- "edge numbers of prefix and of cycle": the room holds the prefix, then the cycle; of a length past the room, the cells that are there
+abbrev pub prefixOf : Verdict → ℕ
+prefixOf (Run prefix cycle pair) = prefix
+prefixOf Empty = 0
+prefixOf (Refused number place) = 0
+
+abbrev pub cycleOf : Verdict → ℕ
+cycleOf (Run prefix cycle pair) = cycle
+cycleOf Empty = 0
+cycleOf (Refused number place) = 0
+
+-- verdict, code, place, pair ..
+unfoldable pub topText : Verdict → Acceptance → List ℕ
+topText v c =
+    ((shown verdict= (verdictWord v)
+    ++ shown code= (decimal (codeOf v)))
+    ++ shown place= (decimal (placeOf v)))
+    ++ shown pair= (pairText v c)
+
+-- .. prefix, cycle
+unfoldable pub bottomText : List ℕ → List ℕ → List ℕ
+bottomText prefix cycle = shown prefix= (listText prefix) ++ shown cycle= (listText cycle)
+
+unfoldable pub answerText : Verdict → Acceptance → List ℕ → List ℕ
+answerText v c room = topText v c ++ bottomText (take (prefixOf v) room) (take (cycleOf v) (drop (prefixOf v) room))
+
+-- a buffer of this many bytes is long enough for every answer of the program: at most (32 + 2) * 256 - 1 edge numbers, each below 512, with
+-- their commas, and what stands around them (`Room.enough`, in proofs/)
+abbrev pub mostPrinted : ℕ
+mostPrinted = 4 * 8703 + 120
+
+-- ---- what writing does
+
+-- the bytes of the text were written from `at` on, as far as there is room, and r is the place after them
+pub record Put (out out' : List ℕ) (at : ℕ) (text : List ℕ) (r : ℕ) : Type 0 where
+  pub cells : out' ≡ sets out at text
+  pub next : r ≡ at + length text
+
+-- in at most so many bytes
+pub record PutFew (out out' : List ℕ) (at : ℕ) (text : List ℕ) (r most : ℕ) : Type 0 where
+  pub put : Put out out' at text r
+  pub few : r ≤ at + most
+
+-- the text and zeros to the end, if there is room for it; else row 11, and the buffer as it was
+abbrev pub printedOf : List ℕ → ℕ → Printed
+printedOf text room = cond (leb (length text) room) (printed.Text (length text)) (printed.Refused 11 0)
+
+abbrev pub bufferOf : List ℕ → List ℕ → List ℕ
+bufferOf text out = cond (leb (length text) (length out)) (text ++ replicate (length out - length text) 0) out
+
+pub record Prints (text out out' : List ℕ) (r : Printed) : Type 0 where
+  pub answer : r ≡ printedOf text (length out)
+  pub buffer : out' ≡ bufferOf text out

@@ -1,0 +1,73 @@
+-- How a text is cut into lines and fields (document 01, "The job text and the printed answer"). Assumes nothing.
+use mathlib.Core.Bool.{Bool, true, false, cond, _&&_}
+use mathlib.Core.List.{List, [], _∷_}
+use mathlib.Core.Path.{_≡_}
+use Prim.Native.Nat.{ℕ, suc, _+_, _≤_}
+use lib.Dec.{eqb}
+use lib.ListN.{length, take, drop}
+
+abbrev pub newline : ℕ
+newline = 10
+
+abbrev pub comma : ℕ
+comma = 44
+
+-- ---- lines: "Lines end in one newline byte"
+
+pub data Lines : Type 0 where
+  -- no byte is left
+  done : Lines
+  -- bytes are left, and no newline byte among them: "a last line without it counts as missing"
+  broken : Lines
+  -- a line without its newline byte, and the lines after it
+  line : List ℕ → Lines → Lines
+
+-- the first line begins with b
+abbrev pub longer : ℕ → Lines → Lines
+longer b done = broken
+longer b broken = broken
+longer b (line l ls) = line (b ∷ l) ls
+
+unfoldable pub lines : List ℕ → Lines
+lines [] = done
+lines (b ∷ bs) = cond (eqb b newline) (line [] (lines bs)) (longer b (lines bs))
+
+-- ---- fields: what stands between commas, "numbers with commas"
+
+abbrev pub longerField : ℕ → List (List ℕ) → List (List ℕ)
+longerField b [] = (b ∷ []) ∷ []
+longerField b (f ∷ fs) = (b ∷ f) ∷ fs
+
+unfoldable pub fields : List ℕ → List (List ℕ)
+fields [] = [] ∷ []
+fields (b ∷ bs) = cond (eqb b comma) ([] ∷ fields bs) (longerField b (fields bs))
+
+-- ---- words and keys
+
+-- the two are the same bytes
+unfoldable pub same : List ℕ → List ℕ → Bool
+same [] [] = true
+same [] (b ∷ bs) = false
+same (a ∷ xs) [] = false
+same (a ∷ xs) (b ∷ bs) = eqb a b && same xs bs
+
+-- the line begins with the key, which ends in its `=` and has no other
+abbrev pub begins : List ℕ → List ℕ → Bool
+begins key l = same (take (length key) l) key
+
+-- ---- how far a byte is away: what the reader's search finds
+
+abbrev pub oneMore : Bool → ℕ → ℕ
+oneMore true k = 0
+oneMore false k = suc k
+
+-- how many bytes stand before the first b; all of them where there is none
+unfoldable pub ahead : ℕ → List ℕ → ℕ
+ahead b [] = 0
+ahead b (x ∷ xs) = oneMore (eqb x b) (ahead b xs)
+
+-- r is the first place from `from` on at which b stands, or the end
+pub record FirstAt (bs : List ℕ) (from b r : ℕ) : Type 0 where
+  pub place : r ≡ from + ahead b (drop from bs)
+  pub low : from ≤ r
+  pub high : from ≤ length bs → r ≤ length bs

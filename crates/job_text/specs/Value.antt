@@ -1,0 +1,143 @@
+-- The form of each value of the job text, and what it says (document 01, "The job text and the printed answer"):
+-- `none` where the bytes are not of the form. Assumes nothing.
+use mathlib.Core.Bool.{Bool, false, cond, _&&_}
+use mathlib.Core.List.{List, [], _∷_, _++_}
+use mathlib.Core.Option.{Option, some, none}
+use Prim.Native.Nat.{ℕ, zero, suc, _+_, _-_, _*_}
+use lib.Dec.{leb, ltb, eqb}
+use lib.ListN.{length, getD, replicate}
+use Rattle.marks.specs.Mark.{width}
+use Rattle.table.specs.declared.Acceptance.{Acceptance}
+use Rattle.table.specs.declared.Acceptance.the-variants as acceptance
+use Rattle.table.specs.Refusal.{mostStreett, mostRabin}
+use Rattle.job_text.specs.declared.value.Kind.{Kind}
+use Rattle.job_text.specs.declared.value.Kind.the-variants.{Buchi, Streett, Rabin}
+use Rattle.job_text.specs.Text.{fields, same}
+
+-- the numbers, and zeros up to n cells
+abbrev pub padTo : ℕ → List ℕ → List ℕ
+padTo n xs = xs ++ replicate (n - length xs) 0
+
+abbrev pub andThen : {A B : Type 0} → Option A → (A → Option B) → Option B
+andThen none f = none
+andThen (some a) f = f a
+
+-- ---- digits
+
+abbrev pub between : ℕ → ℕ → ℕ → Bool
+between low high b = leb low b && leb b high
+
+-- `0` to `9`
+unfoldable pub digit : ℕ → Option ℕ
+digit b = cond (between 48 57 b) (some (b - 48)) none
+
+-- `0` to `9` and `a` to `f`: "lower-case hex digits"
+unfoldable pub hexDigit : ℕ → Option ℕ
+hexDigit b = cond (between 48 57 b) (some (b - 48)) (cond (between 97 102 b) (some (b - 87)) none)
+
+-- the number that digits spell, the first the highest, where the digits before them spell n
+unfoldable pub spelt : (ℕ → Option ℕ) → ℕ → ℕ → List ℕ → Option ℕ
+spelt value base n [] = some n
+spelt value base n (b ∷ bs) = andThen (value b) (λ d. spelt value base (n * base + d) bs)
+
+-- ---- "Numbers are decimal, no leading zeros, at most 65,535."
+
+abbrev pub mostNumber : ℕ
+mostNumber = 65535
+
+abbrev pub leadingZero : List ℕ → Bool
+leadingZero bs = ltb 1 (length bs) && eqb (getD bs 0 0) 48
+
+abbrev pub atMost : ℕ → Option ℕ → Option ℕ
+atMost most none = none
+atMost most (some n) = cond (leb n most) (some n) none
+
+unfoldable pub number : List ℕ → Option ℕ
+number bs = cond (eqb (length bs) 0) none (cond (leadingZero bs) none (atMost mostNumber (spelt digit 10 0 bs)))
+
+-- ---- "marks as eight lower-case hex digits"
+
+abbrev pub hexDigits : ℕ
+hexDigits = 8
+
+unfoldable pub hexWord : List ℕ → Option ℕ
+hexWord bs = cond (eqb (length bs) hexDigits) (spelt hexDigit 16 0 bs) none
+
+-- ---- "An edge line is from, to, and marks"
+
+pub record Edge : Type 0 where
+  pub from : ℕ
+  pub to : ℕ
+  pub marks : ℕ
+
+abbrev pub edgeOf : List (List ℕ) → Option Edge
+edgeOf [] = none
+edgeOf (f ∷ []) = none
+edgeOf (f ∷ (t ∷ [])) = none
+edgeOf (f ∷ (t ∷ (m ∷ []))) =
+    andThen (number f) (λ from. andThen (number t) (λ to. andThen (hexWord m) (λ marks. some (record { from = from; to = to; marks = marks }))))
+edgeOf (f ∷ (t ∷ (m ∷ (x ∷ xs)))) = none
+
+unfoldable pub edge : List ℕ → Option Edge
+edge bs = edgeOf (fields bs)
+
+-- ---- "Kinds: buchi, streett, rabin."
+
+abbrev pub buchi : List ℕ
+buchi = 98 ∷ 117 ∷ 99 ∷ 104 ∷ 105 ∷ []
+
+abbrev pub streett : List ℕ
+streett = 115 ∷ 116 ∷ 114 ∷ 101 ∷ 101 ∷ 116 ∷ 116 ∷ []
+
+abbrev pub rabin : List ℕ
+rabin = 114 ∷ 97 ∷ 98 ∷ 105 ∷ 110 ∷ []
+
+unfoldable pub kind : List ℕ → Option Kind
+kind bs = cond (same bs buchi) (some Buchi) (cond (same bs streett) (some Streett) (cond (same bs rabin) (some Rabin) none))
+
+abbrev pub condition : Kind → ℕ → Acceptance
+condition Buchi k = acceptance.Buchi k
+condition Streett p = acceptance.Streett p
+condition Rabin p = acceptance.Rabin p
+
+-- ---- "need is `-` unless kind is rabin with count above 0; then exactly count numbers with commas."
+
+abbrev pub dash : List ℕ
+dash = 45 ∷ []
+
+-- how large a count may be: "count above what row 4 allows" is 23
+abbrev pub mostCount : Kind → ℕ
+mostCount Buchi = width
+mostCount Streett = mostStreett
+mostCount Rabin = mostRabin
+
+-- "Rabin's eight needs stand beside it, those from p on 0"
+abbrev pub padded : List ℕ → List ℕ
+padded ds = padTo mostRabin ds
+
+abbrev pub eight : Option (List ℕ) → Option (List ℕ)
+eight none = none
+eight (some ds) = some (padded ds)
+
+-- exactly k fields, each a number
+unfoldable pub listed : ℕ → List (List ℕ) → Option (List ℕ)
+listed zero [] = some []
+listed zero (f ∷ fs) = none
+listed (suc k) [] = none
+listed (suc k) (f ∷ fs) = andThen (number f) (λ d. andThen (listed k fs) (λ ds. some (d ∷ ds)))
+
+abbrev pub hasNeeds : Kind → ℕ → Bool
+hasNeeds Buchi k = false
+hasNeeds Streett p = false
+hasNeeds Rabin p = ltb 0 p
+
+unfoldable pub needs : Kind → ℕ → List ℕ → Option (List ℕ)
+needs k count bs = cond (hasNeeds k count) (eight (listed count (fields bs))) (cond (same bs dash) (some (padded [])) none)
+
+-- ---- "The end line is `end=job`."
+
+abbrev pub job : List ℕ
+job = 106 ∷ 111 ∷ 98 ∷ []
+
+unfoldable pub end : List ℕ → Option (Unit {0})
+end bs = cond (same bs job) (some tt) none

@@ -1,21 +1,19 @@
 -- The edge lines, the end line and what follows it. Assumes nothing.
-use mathlib.Core.Path.{_≡_, refl, sym, ap, _∙_}
-use mathlib.Core.Bool.{Bool, true, false, cond}
+use mathlib.Core.Path.{_≡_, refl, sym, _∙_}
 use mathlib.Core.List.{List, [], _∷_, _++_, map, append-assoc, append-nil, map-append}
-use Prim.Native.Nat.{ℕ, zero, suc, _+_, _-_, _≤_, _<_, zero-le}
+use Prim.Native.Nat.{ℕ, suc, _+_, _-_, _≤_, _<_, zero-le}
 use native.Mathlib.Omega.{arith}
 use lib.Dec.{eqb}
 use lib.ListN.{length, set, drop, drop-of-length-le, length-append, length-map}
 use lib.Seq.{drop-cons}
 use Rattle.table.specs.declared.Finding.{Finding}
-use Rattle.table.specs.declared.Finding.the-variants.{Sound, Refused}
 use Rattle.job_text.specs.declared.line.EdgeLine.{EdgeLine}
 use Rattle.job_text.specs.declared.line.EdgeLine.the-variants as edgeLine
 use Rattle.job_text.specs.Text.{newline, Lines, done, broken, line, longer, lines}
 use Rattle.job_text.specs.Value.{Edge, edge, end, padTo}
-use Rattle.job_text.specs.Job.{Line, says, fault, asked, unlimited, edge=, end=, mostEdges, Found, found, refused, goOn, next, times, over, edgeLines, endLines, bodyLines}
+use Rattle.job_text.specs.Job.{Line, says, fault, asked, unlimited, edge=, end=, mostEdges, Found, found, refused, goOn, over, edgeLines, endLines, bodyLines}
 use Rattle.job_text.specs.Given.{edgeSays}
-use Rattle.job_text.specs.Reading.{edgeFault, Held, Blank, Told, EdgesTold, ending, BodyAt}
+use Rattle.job_text.specs.Reading.{edgeFault, Held, Blank, EdgesTold, ending, BodyAt}
 use Rattle.job_text.proofs.Pad.{pad-more}
 use Rattle.job_text.proofs.Text.{byTest}
 
@@ -52,9 +50,6 @@ module _ (place : ℕ) (ls : Lines) where
 abbrev pub front : List Edge → Found (List Edge) → Found (List Edge)
 front es (found fs p ls) = found (es ++ fs) p ls
 front es (refused x p) = refused x p
-
-abbrev pub readEdge : ℕ → Lines → Found Edge
-readEdge = next (asked edge= edge unlimited)
 
 -- after i edges: they stand in the tables, and the rest of the lines decides
 pub record SoFar (text : List ℕ) (at first count : ℕ) (from to marks : List ℕ) (here i : ℕ) : Type 0 where

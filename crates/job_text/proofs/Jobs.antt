@@ -1,17 +1,16 @@
 -- The whole text: what the reader's parts say of it together. Assumes nothing.
-use mathlib.Core.Path.{_≡_, refl, sym, ap, _∙_}
-use mathlib.Core.List.{List, []}
+use mathlib.Core.Path.{_≡_, sym, _∙_}
+use mathlib.Core.List.{List}
 use Prim.Native.Nat.{ℕ, _≤_, _<_}
-use native.Mathlib.Omega.{arith}
 use lib.ListN.{length, drop}
 use borrow.Author.Tests.{lt-ltb, le-ltb}
 use Rattle.table.specs.declared.Finding.the-variants.{Sound, Refused}
 use Rattle.job_text.specs.declared.reader.Reading.{Reading}
 use Rattle.job_text.specs.declared.reader.Head.{Head as HeadRead}
 use Rattle.job_text.specs.Text.{Lines, lines}
-use Rattle.job_text.specs.Value.{Edge, padTo, condition}
-use Rattle.job_text.specs.Job.{Found, found, refused, Head, mostBytes, mostEdges, headLines, bodyLines, jobOf, Outcome, job, fault, readJob}
-use Rattle.job_text.specs.Reading.{HeadAt, Held, refusedReading, readingOf, cellsOf, Read}
+use Rattle.job_text.specs.Value.{Edge}
+use Rattle.job_text.specs.Job.{Found, found, refused, Head, mostBytes, headLines, bodyLines, jobOf, job, fault, readJob}
+use Rattle.job_text.specs.Reading.{HeadAt, Held, refusedReading, readingOf, Read}
 
 -- ---- what the head's reader says
 

@@ -8,3 +8,6 @@ pub mod Heads
 pub mod Bodies
 pub mod Jobs
 pub mod Puts
+pub mod Room
+pub mod Promises
+pub mod Examples

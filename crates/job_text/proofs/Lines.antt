@@ -8,9 +8,9 @@ use native.Mathlib.Omega.{arith}
 use lib.ListN.{length, take, drop, length-take, length-drop}
 use lib.Seq.{drop-drop, take-take, take-all, take-nil, drop-nil}
 use Rattle.table.specs.Row.{part}
-use Rattle.job_text.specs.Text.{newline, Lines, done, broken, line, lines, same, begins, ahead, FirstAt}
+use Rattle.job_text.specs.Text.{newline, line, lines, same, begins, ahead, FirstAt}
 use Rattle.job_text.specs.declared.line.Span.{Span}
-use Rattle.job_text.specs.Job.{Keyed, missing, value, keyed, Line, says, fault, limited, asked, found, placed, unlimited, kind=, kindIf, kindLine}
+use Rattle.job_text.specs.Job.{Keyed, missing, value, keyed, says, fault, limited, asked, found, placed, unlimited, kind=, kindIf, kindLine}
 use Rattle.job_text.specs.declared.value.Kind.the-variants.{Buchi}
 use Rattle.job_text.specs.Value.{kind}
 use Rattle.job_text.specs.Given.{noSpan, SpanAt}

@@ -1,10 +1,9 @@
 -- A list of needs, field by field. Assumes nothing.
-use mathlib.Core.Path.{_≡_, refl, sym, ap, _∙_}
+use mathlib.Core.Path.{_≡_, refl, sym, _∙_}
 use mathlib.Core.Bool.{true, false, false≢true, cond}
 use mathlib.Core.List.{List, [], _∷_, _++_, append-assoc, append-nil}
 use mathlib.Core.Option.{Option, some, none}
-use Prim.Native.Nat.{ℕ, zero, suc, _+_, _-_, _≤_, _<_, zero-le}
-use native.Mathlib.Nat.{zero-add}
+use Prim.Native.Nat.{ℕ, suc, _+_, _-_, _≤_, _<_, zero-le}
 use native.Mathlib.Omega.{arith}
 use lib.Dec.{leb}
 use lib.ListN.{length, set, drop, replicate, length-append}
@@ -17,7 +16,7 @@ use Rattle.job_text.specs.declared.value.Kind.the-variants.{Buchi, Stree
 use Rattle.job_text.specs.declared.value.NeedList.{NeedList}
 use Rattle.job_text.specs.Given.{needsGiven}
 use Rattle.job_text.specs.Text.{comma, fields, FirstAt}
-use Rattle.job_text.specs.Value.{andThen, padTo, padded, eight, number, listed, hasNeeds, mostCount}
+use Rattle.job_text.specs.Value.{andThen, padded, eight, number, listed, hasNeeds, mostCount}
 use Rattle.job_text.proofs.Pad.{pad-more}
 use Rattle.job_text.proofs.Text.{field-at, field-last, fields-some}
 

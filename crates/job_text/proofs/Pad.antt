@@ -1,14 +1,11 @@
 -- Zeros after what is written: one cell more. Assumes nothing.
-use mathlib.Core.Path.{_≡_, refl, sym, ap, _∙_}
-use mathlib.Core.List.{List, [], _∷_, _++_, append-assoc, append-nil}
-use Prim.Native.Nat.{ℕ, zero, suc, _+_, _-_, _≤_, _<_}
+use mathlib.Core.Path.{_≡_}
+use mathlib.Core.List.{List, [], _∷_, _++_, append-assoc}
+use Prim.Native.Nat.{ℕ, suc, _-_, _<_}
 use native.Mathlib.Omega.{arith}
-use lib.ListN.{length, set, replicate, length-append, length-replicate}
+use lib.ListN.{length, set, replicate, length-append}
 use lib.Seq.{set-append-seam}
 use Rattle.job_text.specs.Value.{padTo}
-
-pub pad-length : (n : ℕ) (xs : List ℕ) → length xs ≤ n → length (padTo n xs) ≡ n
-pad-length n xs l = omega (arith, length-append xs (replicate (n - length xs) 0), length-replicate {A = ℕ} (n - length xs) 0)
 
 pub pad-more : (n : ℕ) (xs : List ℕ) (v : ℕ) → length xs < n → set (padTo n xs) (length xs) v ≡ padTo n (xs ++ (v ∷ []))
 pad-more n xs v l =

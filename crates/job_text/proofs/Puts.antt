@@ -1,13 +1,11 @@
 -- Writing one text after another, and how long the texts are. Assumes nothing.
 use mathlib.Core.Path.{_≡_, refl, sym, ap, _∙_}
-use mathlib.Core.Bool.{true, false, cond}
 use mathlib.Core.List.{List, [], _∷_, _++_, append-nil, append-assoc}
 use Prim.Native.Nat.{ℕ, zero, suc, _+_, _-_, _*_, _/_, _%_, _^_, _≤_, _<_, min}
 use native.Mathlib.Nat.{pow-suc, add-zero}
 use native.Mathlib.Numerals.{add-one}
 use native.Mathlib.Omega.{arith}
-use lib.Dec.{ltb}
-use lib.ListN.{length, getD, take, drop, set, length-append, length-set, length-take, length-drop, length-replicate, take-append-drop, drop-of-length-le, replicate, replicate-append-replicate}
+use lib.ListN.{length, getD, take, drop, set, length-append, length-take, length-drop, length-replicate, take-append-drop, drop-of-length-le, replicate, replicate-append-replicate}
 use lib.Seq.{sets, sets-eq, length-sets, set-out, take-suc, length-take-le, take-length, take-all, drop-length, drop-cons, set-at, take-at}
 use borrow.Author.Tests.{lt-ltb, le-ltb, lt-leb, le-leb}
 use Rattle.marks.proofs.Cases.{below}
@@ -59,17 +57,6 @@ cleared out from i = take from out ++ (replicate (i - from) 0 ++ drop i out)
 
 pub clear-none : (out : List ℕ) (from : ℕ) → out ≡ cleared out from from
 clear-none out from = let e : from - from ≡ 0 = omega arith in rw e (sym (take-append-drop from out))
-
-pub clear-length : (out : List ℕ) (from i : ℕ) → from ≤ i → i ≤ length out → length (cleared out from i) ≡ length out
-clear-length out from i l h =
-    omega (
-      arith,
-      length-append (take from out) (replicate (i - from) 0 ++ drop i out),
-      length-append (replicate (i - from) 0) (drop i out),
-      length-take-le from out (omega arith),
-      length-replicate {A = ℕ} (i - from) 0,
-      length-drop i out,
-    )
 
 pub clear-more : (out : List ℕ) (from i : ℕ) → from ≤ i → i < length out → set (cleared out from i) i 0 ≡ cleared out from (i + 1)
 clear-more out from i l h =

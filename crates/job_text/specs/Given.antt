@@ -1,5 +1,5 @@
 -- What the readers' own answers say, in the words of Value.antt and Job.antt: one definition for each answer. Assumes nothing.
-use mathlib.Core.Bool.{false, cond, true}
+use mathlib.Core.Bool.{false, cond}
 use mathlib.Core.Path.{_≡_}
 use mathlib.Core.List.{List, [], _∷_}
 use mathlib.Core.Option.{Option, some, none}

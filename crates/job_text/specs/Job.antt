@@ -1,11 +1,11 @@
 -- Which texts are jobs, what each says, and where the others are at fault (document 01, "The job text and the printed answer").
 -- Assumes nothing.
-use mathlib.Core.Bool.{Bool, true, false, cond}
-use mathlib.Core.List.{List, [], _∷_, _++_, map}
+use mathlib.Core.Bool.{Bool, false, cond}
+use mathlib.Core.List.{List, [], _∷_}
 use mathlib.Core.Option.{Option, some, none}
-use Prim.Native.Nat.{ℕ, zero, suc, _+_, _-_}
+use Prim.Native.Nat.{ℕ, zero, suc, _+_}
 use lib.Dec.{ltb}
-use lib.ListN.{length, drop, replicate}
+use lib.ListN.{length, drop}
 use Rattle.table.specs.declared.Acceptance.{Acceptance}
 use Rattle.job_text.specs.declared.value.Kind.{Kind}
 use Rattle.job_text.specs.declared.value.Kind.the-variants.{Buchi}

@@ -113,6 +113,11 @@ bottomText prefix cycle = shown prefix= (listText prefix) ++ shown cycle= (listT
 unfoldable pub answerText : Verdict → Acceptance → List ℕ → List ℕ
 answerText v c room = topText v c ++ bottomText (take (prefixOf v) room) (take (cycleOf v) (drop (prefixOf v) room))
 
+-- a buffer of this many bytes is long enough for every answer of the program: at most (32 + 2) * 256 - 1 edge numbers, each below 512, with
+-- their commas, and what stands around them (`Room.enough`, in proofs/)
+abbrev pub mostPrinted : ℕ
+mostPrinted = 4 * 8703 + 120
+
 -- ---- what writing does
 
 -- the bytes of the text were written from `at` on, as far as there is room, and r is the place after them

@@ -20,7 +20,7 @@ use Rattle.job_text.specs.declared.reader.Edges.{Edges}
 use Rattle.job_text.specs.declared.reader.Edges.the-variants as edges
 use Rattle.job_text.specs.Text.{Lines, lines}
 use Rattle.job_text.specs.Value.{Edge, padTo, padded}
-use Rattle.job_text.specs.Job.{Found, found, refused, Head, mostEdges, edgeLines, bodyLines, Job, Outcome, job, fault, readJob}
+use Rattle.job_text.specs.Job.{Found, found, refused, Head, mostEdges, edgeLines, bodyLines, Outcome, job, fault, readJob}
 
 -- ---- the number of a line's fault
 

@@ -1,6 +1,6 @@
 -- The form of each value of the job text, and what it says (document 01, "The job text and the printed answer"):
 -- `none` where the bytes are not of the form. Assumes nothing.
-use mathlib.Core.Bool.{Bool, true, false, cond, _&&_}
+use mathlib.Core.Bool.{Bool, false, cond, _&&_}
 use mathlib.Core.List.{List, [], _∷_, _++_}
 use mathlib.Core.Option.{Option, some, none}
 use Prim.Native.Nat.{ℕ, zero, suc, _+_, _-_, _*_}

@@ -4,12 +4,11 @@ use table::Acceptance;
 use table::Answer;
 use table::Verdict;
 ghost use mathlib.Core.Path.{_≡_};
-ghost use mathlib.Core.List.{List, [], _∷_, _++_};
+ghost use mathlib.Core.List.{[], _∷_, _++_};
 ghost use Prim.Native.Nat.{_+_, _*_, _-_, _^_, _≤_, _<_, min};
 ghost use lib.ListN.{length, take, replicate};
 ghost use mathlib.Core.Bool.{cond};
 ghost use Rattle.job_text.specs.Value.{dash};
-ghost use Rattle.job_text.specs.Text.{newline};
 ghost use Rattle.job_text.specs.Printed.{decimal, furtherText, listText, shown, verdict=, pair=, verdictWord, codeOf, placeOf, isRabin, pairText, prefixOf, cycleOf, topText, bottomText, answerText, Put, PutFew, Prints};
 
 // What printing gives: the text's length, or row 11, the buffer being too short.

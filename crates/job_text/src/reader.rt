@@ -16,10 +16,10 @@ use table::Acceptance;
 use table::Finding;
 ghost use mathlib.Core.Path.{_≡_};
 ghost use Prim.Native.Nat.{_≤_, _<_};
-ghost use lib.ListN.{length, drop};
+ghost use lib.ListN.{drop};
 ghost use Rattle.job_text.specs.Text.{lines};
 ghost use Rattle.job_text.specs.Value.{mostCount, condition};
-ghost use Rattle.job_text.specs.Job.{mostEdges, countLines, headLines, endLines};
+ghost use Rattle.job_text.specs.Job.{countLines, headLines, endLines};
 ghost use Rattle.job_text.specs.Reading.{numberFault, edgeFault, stepFault, refusedHead, HeadAt, Blank, EdgesAt, ending, BodyAt, refusedReading, Read};
 
 // The program's limits; rows 20 and 23.

@@ -103,18 +103,25 @@ fn next_length() -> Next {
     Next::End
 }
 
-// One text, if there is one.
+// The next bytes of the input, as many as `length` says, at the front of the buffer; how many there were.
+fn fill(text: &mut [u8], length: usize) -> usize {
+    if text.len() < length {
+        return 0;
+    }
+    io::read_full(0, &mut text[0..length])
+}
+
+// One text.
 fn one_text(length: usize) {
     let mut text = [0u8; 24576];
-    if 24576 < length {
-        return;
-    }
-    let got = io::read_full(0, &mut text[0..length]);
+    let got = fill(&mut text, length);
     if got != length {
         print(b"cut off\n");
         return;
     }
-    print_reading(&text[0..length]);
+    if length <= 24576 {
+        print_reading(&text[0..length]);
+    }
 }
 
 fn main() {

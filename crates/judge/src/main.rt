@@ -2,6 +2,7 @@
 // libraries, and everything that matters is there.
 use job_text::printer::Printed;
 use job_text::printer::print;
+use job_text::reader::Reading;
 use job_text::reader::read;
 use table::Acceptance;
 use table::Answer;
@@ -31,27 +32,29 @@ fn show(answer: Answer, condition: Acceptance, room: &[u32]) {
     }
 }
 
-// Reads, judges, shows. The room is what 256 states and 32 marks need, the scratch what 256 states and 512 edges need.
-fn judge_text(text: &[u8]) {
-    let mut from = [0u32; 512];
-    let mut to = [0u32; 512];
-    let mut marks = [0u32; 512];
+fn show_refused(number: u32, place: u32, condition: Acceptance) {
+    let room = [0u32; 1];
+    let refused = Answer {
+        verdict: Verdict::Refused { number, place },
+    };
+    show(refused, condition, &room);
+}
+
+// Judges the first edges of the tables. The room is what 256 states and 32 marks need, the scratch what 256 states and 512 edges need.
+fn judge_edges(job: Reading, from: &[u32], to: &[u32], marks: &[u32]) {
+    let m = job.edges as usize;
+    if from.len() < m {
+        return;
+    }
+    if to.len() < m {
+        return;
+    }
+    if marks.len() < m {
+        return;
+    }
     let mut room = [0u32; 8703];
     let mut scratch = [0u32; 4160];
-    let job = read(text, &mut from, &mut to, &mut marks);
     let condition = job.condition;
-    let finding = job.finding;
-    if let Finding::Refused { number, place } = finding {
-        let refused = Answer {
-            verdict: Verdict::Refused { number, place },
-        };
-        show(refused, condition, &room);
-        return;
-    }
-    let m = job.edges as usize;
-    if 512 < m {
-        return;
-    }
     let needs = job.needs;
     let answer = judging::judge(
         job.states,
@@ -65,6 +68,26 @@ fn judge_text(text: &[u8]) {
         &mut scratch,
     );
     show(answer, condition, &room);
+}
+
+// The tables that were read, as slices.
+fn judge_job(job: Reading, from: &[u32; 512], to: &[u32; 512], marks: &[u32; 512]) {
+    judge_edges(job, from, to, marks);
+}
+
+// Reads, judges, shows.
+fn judge_text(text: &[u8]) {
+    let mut from = [0u32; 512];
+    let mut to = [0u32; 512];
+    let mut marks = [0u32; 512];
+    let job = read(text, &mut from, &mut to, &mut marks);
+    let condition = job.condition;
+    let finding = job.finding;
+    if let Finding::Refused { number, place } = finding {
+        show_refused(number, place, condition);
+        return;
+    }
+    judge_job(job, &from, &to, &marks);
 }
 
 fn main() {

@@ -6,7 +6,6 @@ use Rattle.job_text.specs.Value.{edge}
 use Rattle.job_text.specs.Job.{unlimited, edge=}
 use Rattle.job_text.specs.Given.{edgeGiven}
 use Rattle.job_text.proofs.Lines.{asked-missing, asked-malformed, asked-says}
-use native.Mathlib.Omega.{arith}
 use borrow.Author.Needs.{needs}
 use Rattle.job_text.proofs.line.edge_line.Statement.{statement}
 use Rattle.job_text.proofs.line.edge_line.Tie as tie

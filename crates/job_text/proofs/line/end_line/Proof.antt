@@ -5,7 +5,6 @@ use borrow.Author.Tests.{not-true, not-false}
 use Rattle.job_text.specs.Value.{end}
 use Rattle.job_text.specs.Job.{unlimited, end=}
 use Rattle.job_text.proofs.Lines.{asked-missing, asked-malformed, asked-says}
-use native.Mathlib.Omega.{arith}
 use borrow.Author.Needs.{needs}
 use Rattle.job_text.proofs.line.end_line.Statement.{statement}
 use Rattle.job_text.proofs.line.end_line.Tie as tie

@@ -7,7 +7,6 @@ use Rattle.job_text.specs.Value.{kind}
 use Rattle.job_text.specs.Job.{unlimited, kind=, placed}
 use Rattle.job_text.specs.Given.{kindGiven}
 use Rattle.job_text.proofs.Lines.{asked-malformed, asked-says, kind-missing, kind-there}
-use native.Mathlib.Omega.{arith}
 use borrow.Author.Needs.{needs}
 use Rattle.job_text.proofs.line.kind_line.Statement.{statement}
 use Rattle.job_text.proofs.line.kind_line.Tie as tie

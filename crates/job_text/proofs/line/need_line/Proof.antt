@@ -7,7 +7,6 @@ use Rattle.job_text.specs.Job.{unlimited, need=}
 use Rattle.job_text.specs.Given.{needSays}
 use Rattle.job_text.proofs.Needs.{needs-wrong, needs-right}
 use Rattle.job_text.proofs.Lines.{asked-missing, asked-malformed, asked-says}
-use native.Mathlib.Omega.{arith}
 use borrow.Author.Needs.{needs as simple}
 use Rattle.job_text.proofs.line.need_line.Statement.{statement}
 use Rattle.job_text.proofs.line.need_line.Tie as tie

@@ -6,7 +6,6 @@ use Rattle.job_text.specs.Value.{number}
 use Rattle.job_text.specs.Job.{above}
 use Rattle.job_text.specs.Given.{numberGiven}
 use Rattle.job_text.proofs.Lines.{asked-missing, asked-malformed, asked-above, asked-says}
-use native.Mathlib.Omega.{arith}
 use borrow.Author.Needs.{needs}
 use Rattle.job_text.proofs.line.number_line.Statement.{statement}
 use Rattle.job_text.proofs.line.number_line.Tie as tie

@@ -2,7 +2,6 @@
 -- and zeros after it (`printed-whole`). Assumes nothing.
 use denote.Ref.{now}
 use Rattle.job_text.proofs.Puts.{printed-short, printed-whole}
-use native.Mathlib.Omega.{arith}
 use borrow.Author.Needs.{needs}
 use Rattle.job_text.proofs.printer.print.Statement.{statement}
 use Rattle.job_text.proofs.printer.print.Tie as tie

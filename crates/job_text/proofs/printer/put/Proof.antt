@@ -2,7 +2,6 @@
 use denote.Ref.{now}
 use lib.ListN.{length-set}
 use Rattle.job_text.proofs.Puts.{put-in, put-out}
-use native.Mathlib.Omega.{arith}
 use borrow.Author.Needs.{needs}
 use Rattle.job_text.proofs.printer.put.Statement.{statement}
 use Rattle.job_text.proofs.printer.put.Tie as tie

@@ -2,7 +2,6 @@
 use denote.Ref.{now}
 use Rattle.job_text.specs.Printed.{prefixOf, cycleOf, answerText}
 use Rattle.job_text.proofs.Puts.{put-both, lists-there}
-use native.Mathlib.Omega.{arith}
 use borrow.Author.Needs.{needs}
 use Rattle.job_text.proofs.printer.put_answer.Statement.{statement}
 use Rattle.job_text.proofs.printer.put_answer.Tie as tie

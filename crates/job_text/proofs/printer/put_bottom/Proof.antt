@@ -1,7 +1,6 @@
 -- `printer::put_bottom` meets its contract: the two lines, one after the other. Assumes nothing.
 use Rattle.job_text.specs.Printed.{bottomText}
 use Rattle.job_text.proofs.Puts.{put-both}
-use native.Mathlib.Omega.{arith}
 use borrow.Author.Needs.{needs}
 use Rattle.job_text.proofs.printer.put_bottom.Statement.{statement}
 use Rattle.job_text.proofs.printer.put_bottom.Tie as tie

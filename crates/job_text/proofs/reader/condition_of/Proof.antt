@@ -1,5 +1,4 @@
 -- `reader::condition_of` meets its contract, case by case. Assumes nothing.
-use native.Mathlib.Omega.{arith}
 use borrow.Author.Needs.{needs}
 use Rattle.job_text.proofs.reader.condition_of.Statement.{statement}
 use Rattle.job_text.proofs.reader.condition_of.Tie as tie

@@ -1,5 +1,4 @@
 -- `reader::read` meets its contract: 20 first, then the head's fault, then the body's; else the tables are handed over. Assumes nothing.
-use native.Mathlib.Omega.{arith}
 use mathlib.Core.Path.{refl, subst}
 use denote.Ref.{now}
 use Rattle.job_text.specs.Reading.{BodyAt}

@@ -1,5 +1,4 @@
 -- `reader::read_body` meets its contract: a fault of the edge lines is the body's, and else the end decides (`body-ends`). Assumes nothing.
-use native.Mathlib.Omega.{arith}
 use mathlib.Core.Path.{subst}
 use denote.Ref.{now}
 use lib.ListN.{drop}

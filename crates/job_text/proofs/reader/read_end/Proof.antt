@@ -7,7 +7,6 @@ use Rattle.job_text.specs.Text.{lines}
 use Rattle.job_text.specs.Reading.{ending}
 use Rattle.job_text.proofs.Heads.{step-stops, step-goes}
 use Rattle.job_text.proofs.Bodies.{end-stops, end-goes, over-more, over-done}
-use native.Mathlib.Omega.{arith}
 use borrow.Author.Needs.{needs}
 use Rattle.job_text.proofs.reader.read_end.Statement.{statement}
 use Rattle.job_text.proofs.reader.read_end.Tie as tie

@@ -1,7 +1,6 @@
 -- `value::digit_value` meets its contract: the tests are those of the rule, a byte from `0` to `9`. Assumes nothing.
 use Rattle.job_text.specs.Value.{digit}
 use Rattle.job_text.proofs.Values.{within, under, over}
-use native.Mathlib.Omega.{arith}
 use borrow.Author.Needs.{needs}
 use Rattle.job_text.proofs.value.digit_value.Statement.{statement}
 use Rattle.job_text.proofs.value.digit_value.Tie as tie

@@ -1,5 +1,4 @@
 -- `value::has_needs` meets its contract, case by case. Assumes nothing.
-use native.Mathlib.Omega.{arith}
 use borrow.Author.Needs.{needs}
 use Rattle.job_text.proofs.value.has_needs.Statement.{statement}
 use Rattle.job_text.proofs.value.has_needs.Tie as tie

@@ -2,7 +2,6 @@
 use denote.Ref.{now}
 use lib.ListN.{length}
 use borrow.Author.Tests.{le-ltb, lt-ltb}
-use native.Mathlib.Omega.{arith}
 use borrow.Author.Needs.{needs}
 use Rattle.job_text.proofs.value.leading_zero.Statement.{statement}
 use Rattle.job_text.proofs.value.leading_zero.Tie as tie

@@ -1,5 +1,4 @@
 -- `value::read_edge` meets its contract: with two commas it is what its fields say, and otherwise no edge. Assumes nothing.
-use native.Mathlib.Omega.{arith}
 use mathlib.Core.Path.{sym, subst}
 use denote.Ref.{now}
 use Rattle.job_text.specs.Given.{CommasAt}

@@ -3,7 +3,6 @@ use mathlib.Core.Path.{sym, ap, _∙_}
 use denote.Ref.{now}
 use Rattle.job_text.specs.Given.{numberGiven}
 use Rattle.job_text.proofs.Values.{from-wrong, to-wrong, marks-wrong, edge-right}
-use native.Mathlib.Omega.{arith}
 use borrow.Author.Needs.{needs}
 use Rattle.job_text.proofs.value.read_fields.Statement.{statement}
 use Rattle.job_text.proofs.value.read_fields.Tie as tie

@@ -1,6 +1,5 @@
 -- `value::read_kind` meets its contract: its tests are the rule's, in the rule's order. Assumes nothing.
 use Rattle.job_text.specs.Value.{kind}
-use native.Mathlib.Omega.{arith}
 use borrow.Author.Needs.{needs}
 use Rattle.job_text.proofs.value.read_kind.Statement.{statement}
 use Rattle.job_text.proofs.value.read_kind.Tie as tie

@@ -1,5 +1,4 @@
 -- `value::read_needs` meets its contract: the test is the rule's, and a count of needs is at most eight since the kind is rabin. Assumes nothing.
-use native.Mathlib.Omega.{arith}
 use mathlib.Core.Path.{sym, _∙_}
 use Rattle.job_text.specs.Value.{needs}
 use Rattle.job_text.proofs.Needs.{needs-few}

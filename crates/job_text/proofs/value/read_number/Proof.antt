@@ -3,7 +3,6 @@ use denote.Ref.{now}
 use lib.ListN.{length}
 use borrow.Author.Tests.{eq-eqb, ne-eqb}
 use Rattle.job_text.specs.Value.{number}
-use native.Mathlib.Omega.{arith}
 use borrow.Author.Needs.{needs}
 use Rattle.job_text.proofs.value.read_number.Statement.{statement}
 use Rattle.job_text.proofs.value.read_number.Tie as tie

@@ -1,0 +1,35 @@
+-- Document 01's own examples of the job text and of the printed answer, computed from the definitions. Assumes nothing.
+use mathlib.Core.Path.{_≡_, refl}
+use mathlib.Core.List.{List, [], _∷_}
+use Prim.Native.Nat.{ℕ}
+use Rattle.table.specs.declared.Acceptance.the-variants.{Rabin}
+use Rattle.table.specs.declared.Verdict.the-variants.{Run}
+use Rattle.job_text.specs.Text.{lines, fields, same}
+use Rattle.job_text.specs.Value.{digit, hexDigit, spelt, number, hexWord, edge, kind, listed, needs, end, padded}
+use Rattle.job_text.specs.Job.{job, fault, readJob}
+use Rattle.job_text.specs.Printed.{decimalIn, furtherText, topText, bottomText, answerText}
+
+-- "Whole input"
+whole : List ℕ
+whole =
+    115 ∷ 116 ∷ 97 ∷ 116 ∷ 101 ∷ 115 ∷ 61 ∷ 49 ∷ 10 ∷ 115 ∷ 116 ∷ 97 ∷ 114 ∷ 116 ∷ 61 ∷ 48 ∷ 10 ∷ 107 ∷ 105 ∷ 110 ∷ 100 ∷ 61 ∷ 114 ∷ 97 ∷ 98 ∷ 105 ∷ 110 ∷ 10 ∷ 99 ∷ 111 ∷ 117 ∷ 110 ∷ 116 ∷ 61 ∷ 50 ∷ 10 ∷ 110 ∷ 101 ∷ 101 ∷ 100 ∷ 61 ∷ 48 ∷ 44 ∷ 48 ∷ 10 ∷ 101 ∷ 100 ∷ 103 ∷ 101 ∷ 115 ∷ 61 ∷ 49 ∷ 10 ∷ 101 ∷ 100 ∷ 103 ∷ 101 ∷ 61 ∷ 48 ∷ 44 ∷ 48 ∷ 44 ∷ 48 ∷ 48 ∷ 48 ∷ 48 ∷ 48 ∷ 48 ∷ 48 ∷ 49 ∷ 10 ∷ 101 ∷ 110 ∷ 100 ∷ 61 ∷ 106 ∷ 111 ∷ 98 ∷ 10 ∷ []
+
+whole-read : readJob whole
+    ≡ job (record { states = 1; start = 0; condition = Rabin 2; needs = padded (0 ∷ 0 ∷ []); edges = record { from = 0; to = 0; marks = 1 } ∷ [] })
+unfolding whole readJob lines fields same digit hexDigit spelt number hexWord edge kind listed needs end
+whole-read = refl
+
+-- no kind line, and the last newline byte forgotten: 21 at line 6
+cut-off : List ℕ
+cut-off =
+    115 ∷ 116 ∷ 97 ∷ 116 ∷ 101 ∷ 115 ∷ 61 ∷ 49 ∷ 10 ∷ 115 ∷ 116 ∷ 97 ∷ 114 ∷ 116 ∷ 61 ∷ 48 ∷ 10 ∷ 99 ∷ 111 ∷ 117 ∷ 110 ∷ 116 ∷ 61 ∷ 48 ∷ 10 ∷ 110 ∷ 101 ∷ 101 ∷ 100 ∷ 61 ∷ 45 ∷ 10 ∷ 101 ∷ 100 ∷ 103 ∷ 101 ∷ 115 ∷ 61 ∷ 48 ∷ 10 ∷ 101 ∷ 110 ∷ 100 ∷ 61 ∷ 106 ∷ 111 ∷ 98 ∷ []
+
+cut-off-refused : readJob cut-off ≡ fault 21 6
+unfolding cut-off readJob lines fields same digit hexDigit spelt number hexWord edge kind listed needs end
+cut-off-refused = refl
+
+-- "Whole output"
+whole-printed : answerText (Run 0 1 1) (Rabin 2) (0 ∷ [])
+    ≡ 118 ∷ 101 ∷ 114 ∷ 100 ∷ 105 ∷ 99 ∷ 116 ∷ 61 ∷ 114 ∷ 117 ∷ 110 ∷ 10 ∷ 99 ∷ 111 ∷ 100 ∷ 101 ∷ 61 ∷ 48 ∷ 10 ∷ 112 ∷ 108 ∷ 97 ∷ 99 ∷ 101 ∷ 61 ∷ 48 ∷ 10 ∷ 112 ∷ 97 ∷ 105 ∷ 114 ∷ 61 ∷ 49 ∷ 10 ∷ 112 ∷ 114 ∷ 101 ∷ 102 ∷ 105 ∷ 120 ∷ 61 ∷ 45 ∷ 10 ∷ 99 ∷ 121 ∷ 99 ∷ 108 ∷ 101 ∷ 61 ∷ 48 ∷ 10 ∷ []
+unfolding decimalIn furtherText topText bottomText answerText
+whole-printed = refl

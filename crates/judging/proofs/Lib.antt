@@ -24,6 +24,7 @@ pub mod Sizes
 pub mod Steps
 pub mod Stores
 pub mod Swaps
+pub mod Trails
 pub mod Tying
 pub mod Unique
 pub mod Unions

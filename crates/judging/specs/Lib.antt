@@ -10,4 +10,5 @@ pub mod Region
 pub mod Search
 pub mod Searching
 pub mod Tied
+pub mod Trail
 pub mod Tying

@@ -5,7 +5,7 @@ use Prim.Native.Nat.{ℕ, zero, suc, _+_, _-_, _/_, _%_, _^_, _≤_, _<_, min, m
 use native.Mathlib.Nat.{pow-suc, div-eq-of-lt, lt-of-lt-of-le}
 use native.Mathlib.Numerals.{one-add}
 use native.Mathlib.Omega.{arith}
-use lib.Bits.{bitAnd, bitOr, bitXor, differ, and-step, or-step, xor-step, and-shr, or-shr, xor-shr, or-lt}
+use lib.Bits.{bitAnd, bitOr, bitXor, differ, and-step, or-step, xor-step, and-shr, or-shr, xor-shr}
 use lib.Pow.{pow-pos, pow-mono, pow-lt, pow-add, shl-shr, shr-shr, high, ones-split, ones-lt}
 use lib.Arith.{bin-ind}
 use Rattle.marks.specs.Mark.{has, union, without, Meets, Covers, firstMarks}
@@ -209,7 +209,3 @@ fits-has w x f =
   where
     covered : Covers (2 ^ w - 1) x
     covered i h = has-ones i w .1 (f i h)
-
-pub union-fits : (w a b : ℕ) → a < 2 ^ w → b < 2 ^ w → union a b < 2 ^ w
-unfolding union
-union-fits w a b ha hb = or-lt w a b ha hb

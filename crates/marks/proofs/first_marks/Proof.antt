@@ -1,6 +1,6 @@
 -- `marks::first_marks` meets its contract: `(1 << k) - 1` is 2 ^ k - 1, and the full word where k is the width or above. Assumes nothing.
 use mathlib.Core.Path.{_≡_, ap, _∙_}
-use Prim.Native.Nat.{ℕ, _*_, _%_, _^_}
+use Prim.Native.Nat.{ℕ, _*_, _%_, _^_, min}
 use native.Mathlib.Nat.{min-eq-left, min-eq-right, le-of-lt, one-mul, mod-eq-of-lt}
 use native.Mathlib.Omega.{arith}
 use lib.Pow.{pow-lt, pow-pos}
@@ -11,7 +11,7 @@ use Rattle.marks.proofs.first_marks.Tie as tie
 
 returns : tie.Need-returns
 unfolding firstMarks
-returns c = rw (min-eq-right (c .if1 .taken))
+returns c = let full : min (c .before .args .k) width ≡ width = min-eq-right (c .if1 .taken) in rw full
 
 shl-result : tie.Need-shl-result
 shl-result c = search needs

@@ -13,18 +13,17 @@ pub trait Judge {
     fn one_mark(&self, case: &Case, k: u32, loan: &mut TranslationLoan) -> TranslatedTable;
 }
 
+/// A case's table, with its edges as they are lent.
+fn table_over<'a>(case: &Case, from: &'a [u32], to: &'a [u32], marks: &'a [u32]) -> Table<'a> {
+    Table { states: case.states, start: case.start, from, to, marks }
+}
+
 /// The archive that the wrapper links: the proved judge, or its stand-in.
 pub struct Archive;
 
 impl Judge for Archive {
     fn judge(&self, case: &Case, loan: &mut JudgeLoan) -> Answer {
-        let table = Table {
-            states: case.states,
-            start: case.start,
-            from: loan.from.part(),
-            to: loan.to.part(),
-            marks: loan.marks.part(),
-        };
+        let table = table_over(case, loan.from.part(), loan.to.part(), loan.marks.part());
         let (room, scratch) = (loan.room.part_mut(), loan.scratch.part_mut());
         match case.condition {
             Condition::Buchi { marks } => ffi::judge_buchi(&table, marks, room, scratch),
@@ -37,13 +36,7 @@ impl Judge for Archive {
     }
 
     fn one_mark(&self, case: &Case, k: u32, loan: &mut TranslationLoan) -> TranslatedTable {
-        let table = Table {
-            states: case.states,
-            start: case.start,
-            from: loan.from.part(),
-            to: loan.to.part(),
-            marks: loan.marks.part(),
-        };
+        let table = table_over(case, loan.from.part(), loan.to.part(), loan.marks.part());
         ffi::one_mark(&table, k, loan.out_from.part_mut(), loan.out_to.part_mut(), loan.out_marks.part_mut())
     }
 }
@@ -67,13 +60,7 @@ pub fn plain_table<'a>(table: &Table<'a>) -> plain::Table<'a> {
 
 impl Judge for Plain {
     fn judge(&self, case: &Case, loan: &mut JudgeLoan) -> Answer {
-        let table = plain::Table {
-            states: case.states,
-            start: case.start,
-            from: loan.from.part(),
-            to: loan.to.part(),
-            marks: loan.marks.part(),
-        };
+        let table = plain_table(&table_over(case, loan.from.part(), loan.to.part(), loan.marks.part()));
         let verdict = plain::judge(&table, &plain_condition(&case.condition), loan.room.part_mut(), loan.scratch.part_mut());
         let none = Answer { verdict: ffi::REFUSED, number: 0, place: 0, pair: 0, prefix_length: 0, cycle_length: 0 };
         match verdict {
@@ -86,13 +73,7 @@ impl Judge for Plain {
     }
 
     fn one_mark(&self, case: &Case, k: u32, loan: &mut TranslationLoan) -> TranslatedTable {
-        let table = plain::Table {
-            states: case.states,
-            start: case.start,
-            from: loan.from.part(),
-            to: loan.to.part(),
-            marks: loan.marks.part(),
-        };
+        let table = plain_table(&table_over(case, loan.from.part(), loan.to.part(), loan.marks.part()));
         let made = plain::one_mark(&table, k, loan.out_from.part_mut(), loan.out_to.part_mut(), loan.out_marks.part_mut());
         match made {
             plain::Translated::Made { states, edges, start } => TranslatedTable { number: 0, place: 0, states, edges, start },

@@ -6,7 +6,7 @@ use native.Mathlib.Nat.{pow-suc, add-zero}
 use native.Mathlib.Numerals.{add-one}
 use native.Mathlib.Omega.{arith}
 use lib.ListN.{length, getD, take, drop, set, length-append, length-take, length-drop, length-replicate, take-append-drop, drop-of-length-le, replicate, replicate-append-replicate}
-use lib.Seq.{sets, sets-eq, length-sets, set-out, take-suc, length-take-le, take-length, take-all, drop-length, drop-cons, set-at, take-at}
+use lib.Seq.{sets, sets-eq, length-sets, set-out, take-suc, length-take-le, take-length, take-all, drop-length, drop-cons, set-at, take-at, set-comm}
 use borrow.Author.Tests.{lt-ltb, le-ltb, lt-leb, le-leb}
 use Rattle.marks.proofs.Cases.{below}
 use Rattle.table.specs.Row.{part}
@@ -114,6 +114,67 @@ digits-few (suc d) (suc k) n l =
 
 pub decimal-few : (n : ℕ) → n < 2 ^ 32 → length (decimal n) ≤ 10
 decimal-few n l = digits-few 9 n n (omega arith)
+
+-- one digit more is counted
+pub decimal-longer : (n : ℕ) → 10 ≤ n → length (decimal n) ≡ suc (length (decimal (n / 10)))
+decimal-longer n l = ap length (decimal-more n l) ∙ length-append (decimal (n / 10)) ((48 + n % 10) ∷ []) ∙ add-one (length (decimal (n / 10)))
+
+-- the last k digits of a number
+abbrev pub lastDigits : ℕ → ℕ → List ℕ
+lastDigits zero n = []
+lastDigits (suc k) n = lastDigits k (n / 10) ++ ((48 + n % 10) ∷ [])
+
+-- as many as it has are all of them
+digits-all : (k n : ℕ) → decimalIn k n ≡ lastDigits (length (decimalIn k n)) n
+digits-all zero n = rw (last n) refl
+digits-all (suc k) n =
+    below n 10 (λ s. let e : n % 10 ≡ n = omega arith in rw (one (suc k) n s) (ap (λ (d : ℕ). (48 + d) ∷ []) (sym e)))
+    (λ s.
+    let long : length (decimalIn k (n / 10) ++ ((48 + n % 10) ∷ [])) ≡ suc (length (decimalIn k (n / 10))) =
+    length-append (decimalIn k (n / 10)) ((48 + n % 10) ∷ []) ∙ add-one (length (decimalIn k (n / 10))) in
+    rw (more k n s, long) (ap (λ (ds : List ℕ). ds ++ ((48 + n % 10) ∷ [])) (digits-all k (n / 10))))
+
+-- `left` digits are left to be written, those of `rest`, before what is written
+pub record Digits (out : List ℕ) (at n left rest : ℕ) (out' : List ℕ) : Type 0 where
+  pub written : List ℕ
+  pub joins : decimal n ≡ lastDigits left rest ++ written
+  pub cells : out' ≡ sets out (at + left) written
+
+pub digits-none : (out : List ℕ) (at n count : ℕ) → count ≡ length (decimal n) → Digits out at n count n out
+digits-none out at n count e =
+    record { written = []; joins = digits-all n n ∙ ap (λ (k : ℕ). lastDigits k n) (sym e) ∙ sym (append-nil (lastDigits count n)); cells = refl }
+
+-- a store before others
+sets-before : (l : List ℕ) (i j b : ℕ) (vs : List ℕ) → i < j → set (sets l j vs) i b ≡ sets (set l i b) j vs
+sets-before l i j b [] h = refl
+sets-before l i j b (v ∷ vs) h =
+    sets-before (set l j v) i (suc j) b vs (omega arith)
+    ∙ ap (λ (k : List ℕ). sets k (suc j) vs) (set-comm l j i v b (λ (e : j ≡ i). omega arith))
+
+pub digits-more : {out mid out' : List ℕ} {at n left rest r : ℕ} → 0 < left → Digits out at n left rest mid → Put mid out' (at + (left - 1)) ((48 + rest % 10) ∷ []) r
+    → Digits out at n (left - 1) (rest / 10) out'
+digits-more {out} {mid} {out'} {at} {n} {left} {rest} l D P = one-more (left - 1) (omega arith)
+  where
+    one-more : (k : ℕ) → left ≡ suc k → Digits out at n (left - 1) (rest / 10) out'
+    one-more k e =
+        let less : left - 1 ≡ k = omega arith in
+        let next : at + suc k ≡ suc (at + k) = omega arith in
+        let J : decimal n ≡ lastDigits (suc k) rest ++ D .written = rw e at (D .joins) in
+        let C : mid ≡ sets out (suc (at + k)) (D .written) = rw (e, next) at (D .cells) in
+        let Q : out' ≡ set mid (at + k) (48 + rest % 10) = rw less at (P .cells) in
+        rw less
+        (record {
+          written = (48 + rest % 10) ∷ D .written;
+          joins = J ∙ append-assoc (lastDigits k (rest / 10)) ((48 + rest % 10) ∷ []) (D .written);
+          cells = Q ∙ ap (λ (l : List ℕ). set l (at + k) (48 + rest % 10)) C ∙ sets-before out (at + k) (suc (at + k)) (48 + rest % 10) (D .written) (omega arith);
+        })
+
+pub digits-put : {out out' : List ℕ} {at n left rest count : ℕ} → left ≤ 0 → count ≡ length (decimal n) → Digits out at n left rest out' → Put out out' at (decimal n) (at + count)
+digits-put {out} {out'} {at} {n} {left} {rest} l e D =
+    let z : left ≡ 0 = omega arith in
+    let J : decimal n ≡ D .written = rw z at (D .joins) in
+    let C : out' ≡ sets out at (D .written) = rw (z, add-zero at) at (D .cells) in
+    record { cells = rw J C; next = omega arith }
 
 -- ---- a list, number by number
 

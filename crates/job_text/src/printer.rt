@@ -41,16 +41,33 @@ fn put_word(out: &mut [u8], at: usize, word: &[u8]) -> usize
     at + word.len()
 }
 
-// The decimal digits of a number, no leading zeros.
+// How many decimal digits a number has.
+fn count_digits(n: u32) -> usize
+    ensures { λ r. ⌜ r ≡ length (decimal n) ⌝ }
+{
+    let mut count = 1;
+    let mut rest = n;
+    while 10 <= rest {
+        rest /= 10;
+        count += 1;
+    }
+    count
+}
+
+// The decimal digits of a number, no leading zeros; the last one is written first.
 fn put_number(out: &mut [u8], at: usize, n: u32) -> usize
     requires { ⌜ at < 2 ^ 59 ⌝ }
     ensures { λ r. ⌜ Put (now (out .entry)) (now (out .exit)) at (decimal n) r ⌝ }
 {
-    if n < 10 {
-        return put(out, at, b'0' + n as u8);
+    let count = count_digits(n);
+    let mut left = count;
+    let mut rest = n;
+    while 0 < left {
+        left -= 1;
+        put(out, at + left, b'0' + (rest % 10) as u8);
+        rest /= 10;
     }
-    let next = put_number(out, at, n / 10);
-    put(out, next, b'0' + (n % 10) as u8)
+    at + count
 }
 
 // A line with a number.

@@ -1,14 +1,3 @@
+-- Answer: what the judge promises; all that a reader has to believe. inner: what private functions ask and promise.
 pub mod Answer
-pub mod Cells
-pub mod Cutting
-pub mod Hunt
-pub mod Judgement
-pub mod Parts
-pub mod Reach
-pub mod Reaching
-pub mod Region
-pub mod Search
-pub mod Searching
-pub mod Tied
-pub mod Trail
-pub mod Tying
+pub mod inner

@@ -2,4 +2,3 @@ pub mod Carry
 pub mod Counting
 pub mod Fields
 pub mod Walks
-pub mod parts

@@ -9,3 +9,10 @@ pub mod Parts
 pub mod Cutting
 pub mod Boring
 pub mod Steps
+-- Search, Searching: what a search leaves, and what holds while it runs. Trail: the way back from a state.
+pub mod Search
+pub mod Searching
+pub mod Trail
+-- Tied, Tying: the lasso, and what the functions that write it ask and promise.
+pub mod Tied
+pub mod Tying

@@ -1,4 +1,6 @@
+pub mod Causes
 pub mod Faults
+pub mod Looks
 pub mod Needs
 pub mod Rows
 pub mod Shifts

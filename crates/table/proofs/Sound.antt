@@ -75,7 +75,7 @@ edges-fit t u e (suc k) h i l b =
     }))
     (λ q. edges-fit t u (suc e) k (seven .1) i (omega arith) (omega arith))
 
-fit-edges : (t : Table) (u e k : ℕ) → ((i : ℕ) → e ≤ i → i < e + k → EdgeFit t u i) → edgeRefusal t u e k ≡ Sound
+pub fit-edges : (t : Table) (u e k : ℕ) → ((i : ℕ) → e ≤ i → i < e + k → EdgeFit t u i) → edgeRefusal t u e k ≡ Sound
 fit-edges t u e zero f = refl
 fit-edges t u e (suc k) f =
     let g = f e (omega arith) (omega arith) in

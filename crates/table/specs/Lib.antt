@@ -3,3 +3,4 @@ pub mod Condition
 pub mod Refusal
 pub mod Row
 pub mod Shifts
+pub mod inner

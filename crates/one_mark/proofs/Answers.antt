@@ -1,6 +1,6 @@
 -- What each answer of the translation follows from, and what follows from it. Assumes nothing.
 use mathlib.Core.Path.{_≡_, refl, sym, ap, _∙_, subst}
-use mathlib.Core.Bool.{Bool, true, false, false≢true}
+use mathlib.Core.Bool.{Bool, true, false, cond}
 use mathlib.Core.List.{List, []}
 use Prim.Native.Nat.{ℕ, zero, suc, _*_, _≤_, _<_}
 use native.Mathlib.Nat.{mul-le-mul}
@@ -13,20 +13,16 @@ use Rattle.table.specs.declared.Acceptance.the-variants.{Buchi}
 use Rattle.table.specs.declared.Finding.{Finding}
 use Rattle.table.specs.declared.Finding.the-variants.{Sound, Refused as Faulty}
 use Rattle.table.specs.Table.{Table, lent}
-use Rattle.table.specs.Refusal.{refusal, edgeRefusal, pick, either, wrongStates, wrongEdges, wrongStart, wrongCondition, wrongEnd, wrongOrder, wrongMark, mostStates, mostEdges}
-use Rattle.table.proofs.Sound.{Fit, sound-fit, used-few}
+use Rattle.table.specs.Refusal.{refusal, edgeRefusal, wrongStates, wrongEdges, wrongStart, wrongCondition, wrongEnd, wrongOrder, wrongMark, mostStates, mostEdges}
+use Rattle.table.proofs.Sound.{Fit, sound-fit, used-few, either-false}
 use Rattle.one_mark.specs.declared.Translation.{Translation}
 use Rattle.one_mark.specs.declared.Translation.the-variants.{Made, Refused}
 use Rattle.one_mark.specs.Climb.{levels, number}
 use Rattle.one_mark.specs.Outcome.{large, short, answer, numberOf}
 use Rattle.one_mark.specs.Writing.{Ladder}
 
-not-either : (a b : Bool) → either a b ≡ false → (a ≡ false) × (b ≡ false)
-not-either true b e = absurd (false≢true (sym e))
-not-either false b e = (refl, e)
-
 pub not-large : (states edges : ℕ) → large states edges ≡ false → states ≤ mostStates
-not-large states edges e = ltb-false mostStates states (not-either (ltb mostStates states) (ltb mostEdges edges) e .0)
+not-large states edges e = ltb-false mostStates states (either-false (ltb mostStates states) (ltb mostEdges edges) e .0)
 
 -- ---- the counts of a sound table
 
@@ -73,23 +69,23 @@ abbrev Numbered : Finding → Type 0
 Numbered Sound = Unit
 Numbered (Faulty number place) = 0 < number
 
-numbered-pick : (b : Bool) (f g : Finding) → Numbered f → Numbered g → Numbered (pick b f g)
-numbered-pick true f g x y = x
-numbered-pick false f g x y = y
+numbered-cond : (b : Bool) (f g : Finding) → Numbered f → Numbered g → Numbered (cond b f g)
+numbered-cond true f g x y = x
+numbered-cond false f g x y = y
 
 numbered-edges : (t : Table) (u e m : ℕ) → Numbered (edgeRefusal t u e m)
 numbered-edges t u e zero = tt
 numbered-edges t u e (suc m) =
-    numbered-pick (wrongEnd t e) (Faulty 5 e) _ (omega arith)
-    (numbered-pick (wrongOrder t e) (Faulty 6 e) _ (omega arith)
-    (numbered-pick (wrongMark t u e) (Faulty 7 e) _ (omega arith) (numbered-edges t u (suc e) m)))
+    numbered-cond (wrongEnd t e) (Faulty 5 e) _ (omega arith)
+    (numbered-cond (wrongOrder t e) (Faulty 6 e) _ (omega arith)
+    (numbered-cond (wrongMark t u e) (Faulty 7 e) _ (omega arith) (numbered-edges t u (suc e) m)))
 
 numbered : (t : Table) (k : ℕ) → Numbered (refusal t (Buchi k) [])
 numbered t k =
-    numbered-pick (wrongStates t) (Faulty 1 0) _ (omega arith)
-    (numbered-pick (wrongEdges t) (Faulty 2 0) _ (omega arith)
-    (numbered-pick (wrongStart t) (Faulty 3 0) _ (omega arith)
-    (numbered-pick (wrongCondition (Buchi k) []) (Faulty 4 0) _ (omega arith) (numbered-edges t k 0 (t .edges)))))
+    numbered-cond (wrongStates t) (Faulty 1 0) _ (omega arith)
+    (numbered-cond (wrongEdges t) (Faulty 2 0) _ (omega arith)
+    (numbered-cond (wrongStart t) (Faulty 3 0) _ (omega arith)
+    (numbered-cond (wrongCondition (Buchi k) []) (Faulty 4 0) _ (omega arith) (numbered-edges t k 0 (t .edges)))))
 
 -- ---- what the number 0 says of the input and of the answer
 
@@ -111,9 +107,9 @@ module _ (t : Table) (k a b c : ℕ) (r : Translation) (answered : r ≡ answer 
       → (s : Bool) → short (t .edges * levels k) a b c ≡ s → Granted t k a b c r
   by-room q e true s = other (Refused 11 0) (answer-short t k a b c q e s) (omega arith)
   by-room q e false s =
-      let counts = not-either (ltb mostStates (t .states * levels k)) _ e in
-      let one = not-either (ltb a (t .edges * levels k)) _ s in
-      let two = not-either (ltb b (t .edges * levels k)) _ (one .1) in
+      let counts = either-false (ltb mostStates (t .states * levels k)) _ e in
+      let one = either-false (ltb a (t .edges * levels k)) _ s in
+      let two = either-false (ltb b (t .edges * levels k)) _ (one .1) in
       record {
         sound = q;
         few = ltb-false mostStates (t .states * levels k) (counts .0);

@@ -80,7 +80,9 @@ pub fit-edges : (t : Table) (u e k : ℕ) → ((i : ℕ) → e ≤ i → i < e +
 fit-edges t u e zero f = refl
 fit-edges t u e (suc k) f =
     let g = f e (omega arith) (omega arith) in
-    passed (wrongEnd t e) (Refused 5 e) _ (neither (leb (t .states) (getD (t .from) e 0)) _ (lt-leb (t .states) (getD (t .from) e 0) (g .leaves)) (lt-leb (t .states) (getD (t .to) e 0) (g .arrives)))
+    let leaves = lt-leb (t .states) (getD (t .from) e 0) (g .leaves) in
+    let arrives = lt-leb (t .states) (getD (t .to) e 0) (g .arrives) in
+    passed (wrongEnd t e) (Refused 5 e) _ (neither (leb (t .states) (getD (t .from) e 0)) _ leaves arrives)
     (passed (wrongOrder t e) (Refused 6 e) _ (g .order)
     (passed (wrongMark t u e) (Refused 7 e) _ (lt-leb (2 ^ u) (borne t e) (g .marks)) (fit-edges t u (suc e) k (λ i l b. f i (omega arith) (omega arith)))))
 

@@ -95,7 +95,7 @@ refusal t c needs =
     (cond (wrongCondition c needs) (Refused 4 0)
     (edgeRefusal t (used c needs) 0 (t .edges)))))
 
--- ---- document 01's number and place for each answer: 0 and 0 where nothing is found
+-- ---- document 01's number and place for each answer: 0 and 0 where nothing is found (`Door.check-told`, in proofs/, says what they tell)
 
 abbrev pub numberOf : Finding → ℕ
 numberOf Sound = 0
@@ -105,7 +105,8 @@ abbrev pub placeOf : Finding → ℕ
 placeOf Sound = 0
 placeOf (Refused number place) = place
 
--- ---- what a table that is not refused is (`Refusal.sound`, in proofs/: exactly these tables are found sound)
+-- ---- what a table that is not refused is (`Sound.sound-fit` and `Sound.fit-sound`, in proofs/: exactly these tables, with a permitted condition and no
+-- mark that it does not use, are found sound)
 
 pub record Proper (t : Table) : Type 0 where
   pub some : 0 < t .states

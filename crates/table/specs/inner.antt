@@ -1,3 +1,2 @@
--- What private contracts go by; no promise to a caller of this crate.
 -- Looks: what a look over all edges shows, by which rows 5 to 7 pass a sound table
 pub mod Looks

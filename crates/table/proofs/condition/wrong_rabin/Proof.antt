@@ -24,7 +24,10 @@ dealt-before-requires : tie.Need-dealt-before-requires
 dealt-before-requires c κs = search needs
 
 returns-3 : tie.Need-returns-3
-returns-3 c = simp (le-ltb _ _ (c .before .before .before .if1 .left), sym (c .before .before .some-need .ensures) ∙ c .before .if2 .left) (ap (λ (k : ℕ). ltb width k) (c .dealt-before .ensures))
+returns-3 c =
+    let few = le-ltb _ _ (c .before .before .before .if1 .left) in
+    let no-need = sym (c .before .before .some-need .ensures) ∙ c .before .if2 .left in
+    simp (few, no-need) (ap (λ (k : ℕ). ltb width k) (c .dealt-before .ensures))
 
 pub wrong-rabin-spec : {M : Type 1} → statement M
 wrong-rabin-spec =

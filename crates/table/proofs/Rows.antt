@@ -100,7 +100,7 @@ module _ (from : List ℕ) (up : Sorted from) (s a : ℕ) (b : Begins from s a) 
       past : (r : ℕ) → run s (drop a from) ≡ r → a + r < length from → s < getD from (a + r) 0
       past r q h =
           let ne : getD from (a + r) 0 ≡ s → ⊥ =
-              λ z. run-after s (drop a from) (omega (arith, length-drop a from)) (ap (λ (j : ℕ). getD (drop a from) j 0) q ∙ getD-drop a from r 0 ∙ z) in
+          λ z. run-after s (drop a from) (omega (arith, length-drop a from)) (ap (λ (j : ℕ). getD (drop a from) j 0) q ∙ getD-drop a from r 0 ∙ z) in
           let ge : s ≤ getD from (a + r) 0 = b .larger (a + r) (omega arith) h in
           omega arith
 

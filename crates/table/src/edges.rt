@@ -3,10 +3,10 @@
 // table with start 0.
 ghost use mathlib.Core.Path.{_≡_};
 ghost use mathlib.Core.Bool.{true};
-ghost use Prim.Native.Nat.{max};
+ghost use Prim.Native.Nat.{_≤_, max};
 ghost use lib.ListN.{length};
 ghost use Rattle.table.specs.Table.{Table, lent};
-ghost use Rattle.table.specs.Refusal.{edgeRefusal};
+ghost use Rattle.table.specs.Refusal.{edgeRefusal, mostEdges};
 ghost use Rattle.table.specs.inner.Looks.{Even, Fell, Shows};
 use crate::Finding;
 
@@ -76,6 +76,17 @@ fn all_sound(n: u32, from: &[u32], to: &[u32], marks: &[u32], used: u32) -> bool
     marks::covers(marks::first_marks(used), look.union)
 }
 
+// A refusal at an edge.
+fn refused_at(number: u32, e: usize) -> Finding
+    requires { ⌜ e ≤ mostEdges ⌝ }
+    ensures { λ r. ⌜ r ≡ Finding.Refused number e ⌝ }
+{
+    Finding::Refused {
+        number,
+        place: e as u32,
+    }
+}
+
 // The first faulty edge decides, and 5, 6, 7 in that order within it.
 fn first_fault(n: u32, from: &[u32], to: &[u32], marks: &[u32], used: u32) -> Finding
     ghost { Table }
@@ -89,28 +100,16 @@ fn first_fault(n: u32, from: &[u32], to: &[u32], marks: &[u32], used: u32) -> Fi
     while e < from.len() {
         let leaves = from[e];
         if n <= leaves {
-            return Finding::Refused {
-                number: 5,
-                place: e as u32,
-            };
+            return refused_at(5, e);
         }
         if n <= to[e] {
-            return Finding::Refused {
-                number: 5,
-                place: e as u32,
-            };
+            return refused_at(5, e);
         }
         if leaves < before {
-            return Finding::Refused {
-                number: 6,
-                place: e as u32,
-            };
+            return refused_at(6, e);
         }
         if !marks::covers(allowed, marks[e]) {
-            return Finding::Refused {
-                number: 7,
-                place: e as u32,
-            };
+            return refused_at(7, e);
         }
         before = leaves;
         e += 1;

@@ -1,5 +1,6 @@
 -- `edges::first_fault` meets its contract. The invariant: the edges below e are passed (`Passed`). Each test is one of the rows (`Faults`). The measure is
 -- the edges left. Assumes nothing.
+use mathlib.Core.Path.{_∙_}
 use Prim.Native.Nat.{_-_}
 use native.Mathlib.Omega.{arith}
 use lib.ListN.{length}
@@ -27,13 +28,13 @@ mul-leaves c = search needs
 shared-slice-read-leaves : tie.Need-shared-slice-read-leaves Inv-loop μ-loop
 shared-slice-read-leaves c = search needs
 
-cast-t14 : tie.Need-cast-t14 Inv-loop μ-loop
-cast-t14 c = search needs
+refused-at-requires : tie.Need-refused-at-requires Inv-loop μ-loop
+refused-at-requires c κs = search needs
 
 returns : tie.Need-returns Inv-loop μ-loop
 returns c =
-    let at-loop = c .before .before .before in
-    five-leaves _ _ _ _ (at-loop .loop .inv) (c .before .before .loop-test .taken) (c .if1 .taken)
+    let at-loop = c .before .before .before .before in
+    c .refused-at .ensures ∙ five-leaves _ _ _ _ (at-loop .loop .inv) (omega arith) (c .before .if1 .taken)
 
 mul-if2 : tie.Need-mul-if2 Inv-loop μ-loop
 mul-if2 c = search needs
@@ -41,21 +42,21 @@ mul-if2 c = search needs
 shared-slice-read-if2 : tie.Need-shared-slice-read-if2 Inv-loop μ-loop
 shared-slice-read-if2 c = search needs
 
-cast-t16 : tie.Need-cast-t16 Inv-loop μ-loop
-cast-t16 c = search needs
+refused-at-requires-2 : tie.Need-refused-at-requires-2 Inv-loop μ-loop
+refused-at-requires-2 c κs = search needs
 
 returns-2 : tie.Need-returns-2 Inv-loop μ-loop
 returns-2 c =
-    let at-loop = c .before .before .before .before .before in
-    five-arrives _ _ _ _ (at-loop .loop .inv) (omega arith) (omega arith) (omega arith)
+    let at-loop = c .before .before .before .before .before .before in
+    c .refused-at2 .ensures ∙ five-arrives _ _ _ _ (at-loop .loop .inv) (omega arith) (omega arith) (omega arith)
 
-cast-t17 : tie.Need-cast-t17 Inv-loop μ-loop
-cast-t17 c = search needs
+refused-at-requires-3 : tie.Need-refused-at-requires-3 Inv-loop μ-loop
+refused-at-requires-3 c κs = search needs
 
 returns-3 : tie.Need-returns-3 Inv-loop μ-loop
 returns-3 c =
-    let at-loop = c .before .before .before .before .before .before in
-    six _ _ _ _ (at-loop .loop .inv) (omega arith) (omega arith) (omega arith) (omega arith)
+    let at-loop = c .before .before .before .before .before .before .before in
+    c .refused-at3 .ensures ∙ six _ _ _ _ (at-loop .loop .inv) (omega arith) (omega arith) (omega arith) (omega arith)
 
 mul-covers : tie.Need-mul-covers Inv-loop μ-loop
 mul-covers c = search needs
@@ -66,16 +67,16 @@ shared-slice-read-covers c = search needs
 covers-requires : tie.Need-covers-requires Inv-loop μ-loop
 covers-requires c κs = search needs
 
-cast-t20 : tie.Need-cast-t20 Inv-loop μ-loop
-cast-t20 c = search needs
+refused-at-requires-4 : tie.Need-refused-at-requires-4 Inv-loop μ-loop
+refused-at-requires-4 c κs = search needs
 
 returns-4 : tie.Need-returns-4 Inv-loop μ-loop
 returns-4 c =
-    let after-covers = c .before in
+    let after-covers = c .before .before in
     let at-loop = after-covers .before .before .before .before .before .before .before .before in
     let word = after-covers .before .shared-slice-known6 .given (at-loop .loop .e) in
-    let outside = uncovered _ _ (omega (arith, word)) (rw (at-loop .before .first-marks .ensures) at (after-covers .covers .ensures)) (c .if4 .taken) in
-    seven _ _ _ _ (at-loop .loop .inv) (omega arith) (omega arith) (omega arith) (omega arith) outside
+    let outside = uncovered _ _ (omega (arith, word)) (rw (at-loop .before .first-marks .ensures) at (after-covers .covers .ensures)) (c .before .if4 .taken) in
+    c .refused-at4 .ensures ∙ seven _ _ _ _ (at-loop .loop .inv) (omega arith) (omega arith) (omega arith) (omega arith) outside
 
 add-e : tie.Need-add-e Inv-loop μ-loop
 add-e c = search needs
@@ -103,18 +104,18 @@ first-fault-spec =
     loop-holds
     mul-leaves
     shared-slice-read-leaves
-    cast-t14
+    refused-at-requires
     returns
     mul-if2
     shared-slice-read-if2
-    cast-t16
+    refused-at-requires-2
     returns-2
-    cast-t17
+    refused-at-requires-3
     returns-3
     mul-covers
     shared-slice-read-covers
     covers-requires
-    cast-t20
+    refused-at-requires-4
     returns-4
     add-e
     loop-less

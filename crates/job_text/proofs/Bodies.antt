@@ -11,7 +11,7 @@ use Rattle.job_text.specs.declared.line.EdgeLine.{EdgeLine}
 use Rattle.job_text.specs.declared.line.EdgeLine.the-variants as edgeLine
 use Rattle.job_text.specs.Text.{newline, Lines, done, broken, line, longer, lines}
 use Rattle.job_text.specs.Value.{Edge, edge, end, padTo}
-use Rattle.job_text.specs.Job.{Line, says, fault, asked, unlimited, edge=, end=, mostEdges, Found, found, refused, goOn, over, edgeLines, endLines, bodyLines}
+use Rattle.job_text.specs.Job.{Line, says, fault, asked, unlimited, edge=, end=, mostJobEdges, Found, found, refused, goOn, over, edgeLines, endLines, bodyLines}
 use Rattle.job_text.specs.Given.{edgeSays}
 use Rattle.job_text.specs.Reading.{edgeFault, Held, Blank, EdgesTold, ending, BodyAt}
 use Rattle.job_text.proofs.Pad.{pad-more}
@@ -81,10 +81,10 @@ front-more es e (found fs p ls) = rw append-assoc
 front-more es e (refused x p) = refl
 
 -- one cell more of a table
-column-more : (part : Edge → ℕ) (es : List Edge) (e : Edge) (cells : List ℕ) → length es < mostEdges → cells ≡ padTo mostEdges (map part es)
-    → set cells (length es) (part e) ≡ padTo mostEdges (map part (es ++ (e ∷ [])))
+column-more : (part : Edge → ℕ) (es : List Edge) (e : Edge) (cells : List ℕ) → length es < mostJobEdges → cells ≡ padTo mostJobEdges (map part es)
+    → set cells (length es) (part e) ≡ padTo mostJobEdges (map part (es ++ (e ∷ [])))
 column-more part es e cells l h =
-    rw (h, map-append part es (e ∷ []), ← length-map es part) (pad-more mostEdges (map part es) (part e) (omega (arith, length-map es part)))
+    rw (h, map-append part es (e ∷ []), ← length-map es part) (pad-more mostJobEdges (map part es) (part e) (omega (arith, length-map es part)))
 
 module _ (text : List ℕ) (at first count : ℕ) (from to marks : List ℕ) (here i : ℕ) (s : SoFar text at first count from to marks here i) where
   pub edge-stops : (x : ℕ) → i < count → asked edge= edge unlimited (lines (drop here text)) ≡ fault x
@@ -93,12 +93,12 @@ module _ (text : List ℕ) (at first count : ℕ) (from to marks : List ℕ) (he
       let k : count - i ≡ suc (count - (i + 1)) = omega arith in
       rw (s .rest, k, e)
 
-  pub edge-goes : (f : Edge) (after : ℕ) → i < count → count ≤ mostEdges → asked edge= edge unlimited (lines (drop here text)) ≡ says f (lines (drop after text))
+  pub edge-goes : (f : Edge) (after : ℕ) → i < count → count ≤ mostJobEdges → asked edge= edge unlimited (lines (drop here text)) ≡ says f (lines (drop after text))
       → SoFar text at first count (set from i (f .from)) (set to i (f .to)) (set marks i (f .marks)) after (i + 1)
   edge-goes f after l m e =
       let k : count - i ≡ suc (count - (i + 1)) = omega arith in
       let p : first + i + 1 ≡ first + (i + 1) = omega arith in
-      let few : length (s .given) < mostEdges = omega (arith, s .many) in
+      let few : length (s .given) < mostJobEdges = omega (arith, s .many) in
       record {
         given = s .given ++ (f ∷ []);
         many = omega (arith, length-append (s .given) (f ∷ []), s .many);

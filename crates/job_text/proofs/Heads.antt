@@ -16,7 +16,7 @@ use Rattle.job_text.specs.declared.line.Step.the-variants as step
 use Rattle.job_text.specs.declared.reader.Head.{Head as HeadRead}
 use Rattle.job_text.specs.Text.{Lines, lines}
 use Rattle.job_text.specs.Value.{number, kind, needs, mostNumber, mostCount, atMost, leadingZero, spelt, digit}
-use Rattle.job_text.specs.Job.{Keyed, missing, value, keyed, Line, says, fault, limited, formed, asked, above, unlimited, mostStates, mostEdges, states=, start=, count=, need=, edges=, Found, found, refused, Head, placed, kind=, kindIf, kindLine, countLines, headLines}
+use Rattle.job_text.specs.Job.{Keyed, missing, value, keyed, Line, says, fault, limited, formed, asked, above, unlimited, mostJobStates, mostJobEdges, states=, start=, count=, need=, edges=, Found, found, refused, Head, placed, kind=, kindIf, kindLine, countLines, headLines}
 use Rattle.job_text.specs.Given.{numberSays, stepSays}
 use Rattle.job_text.specs.Reading.{numberFault, stepFault, refusedHead, HeadAt}
 use Rattle.job_text.proofs.Text.{byTest}
@@ -101,20 +101,20 @@ module _ (n s : ℕ) (k : Kind) (place : ℕ) (ls : Lines) where
       three-on : place + 1 + 1 + 1 ≡ place + 3
       three-on = omega arith
 
-      pub edges-stop : (x : ℕ) → asked edges= number (above mostEdges) os ≡ fault x → countLines n s k place ls ≡ refused x (place + 2)
+      pub edges-stop : (x : ℕ) → asked edges= number (above mostJobEdges) os ≡ fault x → countLines n s k place ls ≡ refused x (place + 2)
       edges-stop x g = rw (e, f, g, two-on)
 
-      pub edges-go : (m : ℕ) (ps : Lines) → asked edges= number (above mostEdges) os ≡ says m ps
+      pub edges-go : (m : ℕ) (ps : Lines) → asked edges= number (above mostJobEdges) os ≡ says m ps
           → countLines n s k place ls ≡ found (record { states = n; start = s; kind = k; count = c; needs = ds; edges = m }) (place + 3) ps
       edges-go m ps g = rw (e, f, g, three-on)
 
 -- ---- the first lines
 
 module _ (ls : Lines) where
-  pub states-stop : (x : ℕ) → asked states= number (above mostStates) ls ≡ fault x → headLines 1 ls ≡ refused x 1
+  pub states-stop : (x : ℕ) → asked states= number (above mostJobStates) ls ≡ fault x → headLines 1 ls ≡ refused x 1
   states-stop x e = rw e
 
-  module _ (n : ℕ) (ms : Lines) (e : asked states= number (above mostStates) ls ≡ says n ms) where
+  module _ (n : ℕ) (ms : Lines) (e : asked states= number (above mostJobStates) ls ≡ says n ms) where
     pub start-stops : (x : ℕ) → asked start= number (above mostNumber) ms ≡ fault x → headLines 1 ls ≡ refused x 2
     start-stops x f = rw (e, ← asked-free start= ms, f)
 

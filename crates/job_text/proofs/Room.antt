@@ -9,8 +9,9 @@ use Rattle.table.specs.declared.Acceptance.{Acceptance}
 use Rattle.table.specs.declared.Acceptance.the-variants.{Buchi, Streett, Rabin}
 use Rattle.table.specs.declared.Verdict.{Verdict}
 use Rattle.table.specs.declared.Verdict.the-variants.{Run, Empty, Refused}
+use Rattle.table.specs.Verdict.{numberOf, placeOf, pairOf, prefixOf, cycleOf}
 use Rattle.job_text.specs.Text.{comma}
-use Rattle.job_text.specs.Printed.{decimal, furtherText, listText, shown, verdict=, code=, place=, pair=, prefix=, cycle=, verdictWord, codeOf, placeOf, pairText, prefixOf, cycleOf, topText, bottomText, answerText, mostPrinted}
+use Rattle.job_text.specs.Printed.{decimal, furtherText, listText, shown, verdict=, code=, place=, pair=, prefix=, cycle=, verdictWord, pairText, topText, bottomText, answerText, mostPrinted}
 use Rattle.job_text.proofs.Puts.{digits-few, decimal-few, shown-length}
 
 -- ---- edge numbers below 512 have at most three digits
@@ -40,11 +41,6 @@ drop-small n xs h i = rw (getD-drop n xs i 0) (h (n + i))
 
 -- ---- the lines
 
-abbrev pub pairOf : Verdict → ℕ
-pairOf (Run prefix cycle pair) = pair
-pairOf Empty = 0
-pairOf (Refused number place) = 0
-
 word-short : (v : Verdict) → length (verdictWord v) ≤ 7
 word-short (Run prefix cycle pair) = omega arith
 word-short Empty = omega arith
@@ -57,11 +53,11 @@ pair-short (Run prefix cycle pair) (Rabin p) h = decimal-few pair h
 pair-short Empty c h = omega arith
 pair-short (Refused number place) c h = omega arith
 
-top-short : (v : Verdict) (c : Acceptance) → codeOf v < 2 ^ 32 → placeOf v < 2 ^ 32 → pairOf v < 2 ^ 32 → length (topText v c) ≤ 65
+top-short : (v : Verdict) (c : Acceptance) → numberOf v < 2 ^ 32 → placeOf v < 2 ^ 32 → pairOf v < 2 ^ 32 → length (topText v c) ≤ 65
 unfolding topText
 top-short v c h k l =
     let one = shown verdict= (verdictWord v) in
-    let two = shown code= (decimal (codeOf v)) in
+    let two = shown code= (decimal (numberOf v)) in
     let three = shown place= (decimal (placeOf v)) in
     let four = shown pair= (pairText v c) in
     omega (
@@ -71,8 +67,8 @@ top-short v c h k l =
       length-append one two,
       shown-length verdict= (verdictWord v),
       word-short v,
-      shown-length code= (decimal (codeOf v)),
-      decimal-few (codeOf v) h,
+      shown-length code= (decimal (numberOf v)),
+      decimal-few (numberOf v) h,
       shown-length place= (decimal (placeOf v)),
       decimal-few (placeOf v) k,
       shown-length pair= (pairText v c),
@@ -92,7 +88,7 @@ bottom-short p c h k =
     )
 
 -- the buffer suffices: for numbers of 32 bits, and a room of at most 8,703 edge numbers below 512
-pub enough : (v : Verdict) (c : Acceptance) (room : List ℕ) → codeOf v < 2 ^ 32 → placeOf v < 2 ^ 32 → pairOf v < 2 ^ 32 → length room ≤ 8703
+pub enough : (v : Verdict) (c : Acceptance) (room : List ℕ) → numberOf v < 2 ^ 32 → placeOf v < 2 ^ 32 → pairOf v < 2 ^ 32 → length room ≤ 8703
     → ((i : ℕ) → getD room i 0 < 512) → length (answerText v c room) ≤ mostPrinted
 unfolding answerText
 enough v c room h k l few small =

@@ -18,11 +18,11 @@ use Rattle.job_text.specs.Value.{number, kind, needs, Edge, edge, end, c
 abbrev pub mostBytes : ℕ
 mostBytes = 12288
 
-abbrev pub mostStates : ℕ
-mostStates = 256
+abbrev pub mostJobStates : ℕ
+mostJobStates = 256
 
-abbrev pub mostEdges : ℕ
-mostEdges = 512
+abbrev pub mostJobEdges : ℕ
+mostJobEdges = 512
 
 abbrev pub above : ℕ → ℕ → Bool
 above most n = ltb most n
@@ -151,13 +151,13 @@ abbrev pub countLines : ℕ → ℕ → Kind → Reader Head
 countLines n s k = do
   c ← next (asked count= number (above (mostCount k)))
   ds ← next (asked need= (needs k c) unlimited)
-  m ← next (asked edges= number (above mostEdges))
+  m ← next (asked edges= number (above mostJobEdges))
   give (record { states = n; start = s; kind = k; count = c; needs = ds; edges = m })
 
 -- "Keys stand in this order: states, start, kind, .."
 abbrev pub headLines : Reader Head
 headLines = do
-  n ← next (asked states= number (above mostStates))
+  n ← next (asked states= number (above mostJobStates))
   s ← next (asked start= number unlimited)
   k ← kindLine
   countLines n s k

@@ -10,6 +10,7 @@ use Rattle.table.specs.declared.Acceptance.{Acceptance}
 use Rattle.table.specs.declared.Acceptance.the-variants.{Buchi, Streett, Rabin}
 use Rattle.table.specs.declared.Verdict.{Verdict}
 use Rattle.table.specs.declared.Verdict.the-variants.{Run, Empty, Refused}
+use Rattle.table.specs.Verdict.{numberOf, placeOf, prefixOf, cycleOf}
 use Rattle.job_text.specs.declared.printer.Printed.{Printed}
 use Rattle.job_text.specs.declared.printer.Printed.the-variants as printed
 use Rattle.job_text.specs.Text.{newline, comma}
@@ -65,17 +66,6 @@ verdictWord (Run prefix cycle pair) = 114 ∷ 117 ∷ 110 ∷ []
 verdictWord Empty = 101 ∷ 109 ∷ 112 ∷ 116 ∷ 121 ∷ []
 verdictWord (Refused number place) = 114 ∷ 101 ∷ 102 ∷ 117 ∷ 115 ∷ 101 ∷ 100 ∷ []
 
--- "number and place from the table"
-abbrev pub codeOf : Verdict → ℕ
-codeOf (Run prefix cycle pair) = 0
-codeOf Empty = 0
-codeOf (Refused number place) = number
-
-abbrev pub placeOf : Verdict → ℕ
-placeOf (Run prefix cycle pair) = 0
-placeOf Empty = 0
-placeOf (Refused number place) = place
-
 -- "pair (a number for a Rabin run, else `-`)"
 abbrev pub isRabin : Acceptance → Bool
 isRabin (Buchi k) = false
@@ -87,29 +77,19 @@ pairText (Run prefix cycle pair) c = cond (isRabin c) (decimal pair) dash
 pairText Empty c = dash
 pairText (Refused number place) c = dash
 
--- "edge numbers of prefix and of cycle": the room holds the prefix, then the cycle; of a length past the room, the cells that are there
-abbrev pub prefixOf : Verdict → ℕ
-prefixOf (Run prefix cycle pair) = prefix
-prefixOf Empty = 0
-prefixOf (Refused number place) = 0
-
-abbrev pub cycleOf : Verdict → ℕ
-cycleOf (Run prefix cycle pair) = cycle
-cycleOf Empty = 0
-cycleOf (Refused number place) = 0
-
--- verdict, code, place, pair ..
+-- "verdict (run, empty, refused), number and place from the table, pair" ..
 unfoldable pub topText : Verdict → Acceptance → List ℕ
 topText v c =
     ((shown verdict= (verdictWord v)
-    ++ shown code= (decimal (codeOf v)))
+    ++ shown code= (decimal (numberOf v)))
     ++ shown place= (decimal (placeOf v)))
     ++ shown pair= (pairText v c)
 
--- .. prefix, cycle
+-- .. "edge numbers of prefix and of cycle"
 unfoldable pub bottomText : List ℕ → List ℕ → List ℕ
 bottomText prefix cycle = shown prefix= (listText prefix) ++ shown cycle= (listText cycle)
 
+-- the room holds the prefix, then the cycle; of a length past the room, the cells that are there
 unfoldable pub answerText : Verdict → Acceptance → List ℕ → List ℕ
 answerText v c room = topText v c ++ bottomText (take (prefixOf v) room) (take (cycleOf v) (drop (prefixOf v) room))
 

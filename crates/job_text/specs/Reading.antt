@@ -20,7 +20,7 @@ use Rattle.job_text.specs.declared.reader.Edges.{Edges}
 use Rattle.job_text.specs.declared.reader.Edges.the-variants as edges
 use Rattle.job_text.specs.Text.{Lines, lines}
 use Rattle.job_text.specs.Value.{Edge, padTo, padded}
-use Rattle.job_text.specs.Job.{Found, found, refused, Head, mostEdges, edgeLines, bodyLines, Outcome, job, fault, readJob}
+use Rattle.job_text.specs.Job.{Found, found, refused, Head, mostJobEdges, edgeLines, bodyLines, Outcome, job, fault, readJob}
 
 -- ---- the number of a line's fault
 
@@ -46,7 +46,7 @@ headBy (Refused number place) text h = refused number place
 
 pub record HeadAt (text : List ℕ) (lines : Found Head) (h : HeadRead) : Type 0 where
   pub is : headBy (h .finding) text h ≡ lines
-  pub few : h .edges ≤ mostEdges
+  pub few : h .edges ≤ mostJobEdges
   pub early : h .line ≤ 7
 
 abbrev pub refusedHead : ℕ → ℕ → HeadRead
@@ -57,17 +57,17 @@ refusedHead number place =
 
 -- tables that nothing is written in yet
 pub record Blank (edges line : ℕ) (from to marks : List ℕ) : Type 0 where
-  pub few : edges ≤ mostEdges
+  pub few : edges ≤ mostJobEdges
   pub early : line ≤ 7
-  pub from-blank : from ≡ padTo mostEdges []
-  pub to-blank : to ≡ padTo mostEdges []
-  pub marks-blank : marks ≡ padTo mostEdges []
+  pub from-blank : from ≡ padTo mostJobEdges []
+  pub to-blank : to ≡ padTo mostJobEdges []
+  pub marks-blank : marks ≡ padTo mostJobEdges []
 
 -- tables that hold these edges, and zeros after them
 pub record Held (es : List Edge) (from to marks : List ℕ) : Type 0 where
-  pub froms : from ≡ padTo mostEdges (map (λ (e : Edge). e .from) es)
-  pub tos : to ≡ padTo mostEdges (map (λ (e : Edge). e .to) es)
-  pub sets : marks ≡ padTo mostEdges (map (λ (e : Edge). e .marks) es)
+  pub froms : from ≡ padTo mostJobEdges (map (λ (e : Edge). e .from) es)
+  pub tos : to ≡ padTo mostJobEdges (map (λ (e : Edge). e .to) es)
+  pub sets : marks ≡ padTo mostJobEdges (map (λ (e : Edge). e .marks) es)
 
 -- the lines say these edges
 pub record Told (said : Found (List Edge)) (count : ℕ) (from to marks : List ℕ) : Type 0 where
@@ -109,7 +109,7 @@ readingOf (fault number place) = refusedReading number place
 
 -- a table's cells afterwards, by what they were: the edges' numbers and zeros after them; or as they were
 abbrev pub cellsOf : (Edge → ℕ) → Outcome → List ℕ → List ℕ
-cellsOf part (job j) before = padTo mostEdges (map part (j .edges))
+cellsOf part (job j) before = padTo mostJobEdges (map part (j .edges))
 cellsOf part (fault number place) before = before
 
 pub record Read (text from to marks from' to' marks' : List ℕ) (r : Reading) : Type 0 where

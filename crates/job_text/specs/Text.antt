@@ -57,14 +57,10 @@ begins key l = same (take (length key) l) key
 
 -- ---- how far a byte is away: what the reader's search finds
 
-abbrev pub oneMore : Bool → ℕ → ℕ
-oneMore true k = 0
-oneMore false k = suc k
-
 -- how many bytes stand before the first b; all of them where there is none
 unfoldable pub ahead : ℕ → List ℕ → ℕ
 ahead b [] = 0
-ahead b (x ∷ xs) = oneMore (eqb x b) (ahead b xs)
+ahead b (x ∷ xs) = cond (eqb x b) 0 (suc (ahead b xs))
 
 -- r is the first place from `from` on at which b stands, or the end
 pub record FirstAt (bs : List ℕ) (from b r : ℕ) : Type 0 where

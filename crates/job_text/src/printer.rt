@@ -9,7 +9,8 @@ ghost use Prim.Native.Nat.{_+_, _*_, _-_, _^_, _≤_, _<_, min};
 ghost use lib.ListN.{length, take, replicate};
 ghost use mathlib.Core.Bool.{cond};
 ghost use Rattle.job_text.specs.Value.{dash};
-ghost use Rattle.job_text.specs.Printed.{decimal, furtherText, listText, shown, verdict=, pair=, verdictWord, codeOf, placeOf, isRabin, pairText, prefixOf, cycleOf, topText, bottomText, answerText, Put, PutFew, Prints};
+ghost use Rattle.table.specs.Verdict.{numberOf, placeOf, prefixOf, cycleOf};
+ghost use Rattle.job_text.specs.Printed.{decimal, furtherText, listText, shown, verdict=, pair=, verdictWord, isRabin, pairText, topText, bottomText, answerText, Put, PutFew, Prints};
 
 // What printing gives: the text's length, or row 11, the buffer being too short.
 pub enum Printed {
@@ -177,7 +178,7 @@ fn put_pair(out: &mut [u8], at: usize, verdict: Verdict, condition: Acceptance) 
 }
 
 fn number_of(verdict: Verdict) -> u32
-    ensures { λ r. ⌜ r ≡ codeOf verdict ⌝ }
+    ensures { λ r. ⌜ r ≡ numberOf verdict ⌝ }
 {
     match verdict {
         Verdict::Run {

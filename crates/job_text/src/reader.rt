@@ -25,9 +25,9 @@ ghost use Rattle.job_text.specs.Reading.{numberFault, edgeFault, stepFau
 // The program's limits; rows 20 and 23.
 const MOST_BYTES: usize = 12288;
 
-const MOST_STATES: u32 = 256;
+const MOST_JOB_STATES: u32 = 256;
 
-const MOST_EDGES: u32 = 512;
+const MOST_JOB_EDGES: u32 = 512;
 
 // What a job text says: nothing found, and the job; or the number and the place of its first fault, and zeros with Büchi 0.
 pub struct Reading {
@@ -138,7 +138,7 @@ fn read_counts(text: &[u8], at: usize, line: u32, states: u32, start: u32, kind:
         return head_refused(step_fault(step), line + 1);
     };
     let needs = need.needs;
-    let sized = number_line(text, edges_at, b"edges=", MOST_EDGES);
+    let sized = number_line(text, edges_at, b"edges=", MOST_JOB_EDGES);
     let NumberLine::Value { value: edges, next } = sized else {
         return head_refused(number_fault(sized), line + 2);
     };
@@ -159,7 +159,7 @@ fn read_counts(text: &[u8], at: usize, line: u32, states: u32, start: u32, kind:
 fn read_head(text: &[u8]) -> Head
     ensures { λ r. ⌜ HeadAt (now (text .entry)) (headLines 1 (lines (now (text .entry)))) r ⌝ }
 {
-    let first = number_line(text, 0, b"states=", MOST_STATES);
+    let first = number_line(text, 0, b"states=", MOST_JOB_STATES);
     let NumberLine::Value {
         value: states,
         next: start_at,

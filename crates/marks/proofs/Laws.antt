@@ -5,7 +5,7 @@ use Prim.Native.Nat.{ℕ, zero, suc, _+_, _-_, _/_, _%_, _^_, _≤_, _<_, min, m
 use native.Mathlib.Nat.{pow-suc, div-eq-of-lt, lt-of-lt-of-le}
 use native.Mathlib.Numerals.{one-add}
 use native.Mathlib.Omega.{arith}
-use lib.Bits.{bitAnd, bitOr, bitXor, differ, and-step, or-step, xor-step, and-shr, or-shr, xor-shr}
+use lib.Bits.{bitAnd, bitOr, bitXor, differ, and-le-l, and-step, or-step, xor-step, and-shr, or-shr, xor-shr}
 use lib.Pow.{pow-pos, pow-mono, pow-lt, pow-add, shl-shr, shr-shr, high, ones-split, ones-lt}
 use lib.Arith.{bin-ind}
 use Rattle.marks.specs.Mark.{has, union, without, Meets, Covers, firstMarks}
@@ -205,7 +205,8 @@ has-fits w i x l h = below i w (λ k. k) (λ k. absurd (omega (arith, div-eq-of-
 pub fits-has : (w x : ℕ) → ((i : ℕ) → has i x → i < w) → x < 2 ^ w
 unfolding Covers
 fits-has w x f =
-    let e : bitAnd (2 ^ w - 1) x ≡ x = covers-and (2 ^ w - 1) x .1 (covered) in omega (arith, lib.Bits.and-le-l (2 ^ w - 1) x, ones-lt w)
+    let e : bitAnd (2 ^ w - 1) x ≡ x = covers-and (2 ^ w - 1) x .1 covered in
+    omega (arith, and-le-l (2 ^ w - 1) x, ones-lt w)
   where
     covered : Covers (2 ^ w - 1) x
     covered i h = has-ones i w .1 (f i h)

@@ -1,1 +1,2 @@
+-- Mark: what a set of marks is
 pub mod Mark

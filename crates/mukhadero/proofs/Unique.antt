@@ -9,7 +9,7 @@ use Rattle.table.specs.declared.Acceptance.{Acceptance}
 use Rattle.table.specs.declared.Verdict.{Verdict}
 use Rattle.table.specs.declared.Verdict.the-variants.{Run, Empty, Refused}
 use Rattle.table.specs.Table.{Table}
-use Rattle.judging.specs.Answer.{kindOf, numberOf, placeOf}
+use Rattle.table.specs.Verdict.{kindOf, numberOf, placeOf}
 use Rattle.judging.proofs.Unique.{Alike, answers-alike}
 use Rattle.one_mark.proofs.Faithful.{one-result}
 use Rattle.mukhadero.specs.declared.AnswerNumbers.{AnswerNumbers}

@@ -5,27 +5,16 @@ use Prim.Native.Nat.{ℕ}
 use lib.ListN.{replicate}
 use Rattle.table.specs.declared.Acceptance.{Acceptance}
 use Rattle.table.specs.declared.Verdict.{Verdict}
-use Rattle.table.specs.declared.Verdict.the-variants.{Run, Empty, Refused}
 use Rattle.table.specs.declared.Answer.{Answer}
 use Rattle.table.specs.Table.{Table}
-use Rattle.judging.specs.Answer.{Answers, kindOf, numberOf, placeOf, pairOf}
+use Rattle.table.specs.Verdict.{kindOf, numberOf, placeOf, pairOf, prefixOf, cycleOf}
+use Rattle.judging.specs.Answer.{Answers}
 use Rattle.one_mark.specs.declared.Translation.{Translation}
 use Rattle.one_mark.specs.Outcome.{Outcome, statesOf, edgesOf, startOf, numberOf as tableNumberOf, placeOf as tablePlaceOf}
 use Rattle.mukhadero.specs.declared.AnswerNumbers.{AnswerNumbers}
 use Rattle.mukhadero.specs.declared.TableNumbers.{TableNumbers}
 
 -- ---- the judge
-
--- the lengths of a run's prefix and cycle; 0 where there is none
-abbrev pub prefixOf : Verdict → ℕ
-prefixOf (Run prefix cycle pair) = prefix
-prefixOf Empty = 0
-prefixOf (Refused number place) = 0
-
-abbrev pub cycleOf : Verdict → ℕ
-cycleOf (Run prefix cycle pair) = cycle
-cycleOf Empty = 0
-cycleOf (Refused number place) = 0
 
 -- a verdict in plain numbers
 abbrev pub answerNumbers : Verdict → AnswerNumbers

@@ -1,8 +1,8 @@
 -- What each answer of the translation follows from, and what follows from it. Assumes nothing.
 use mathlib.Core.Path.{_≡_, refl, sym, ap, _∙_, subst}
-use mathlib.Core.Bool.{Bool, true, false, false≢true}
+use mathlib.Core.Bool.{Bool, true, false}
 use mathlib.Core.List.{List, []}
-use Prim.Native.Nat.{ℕ, zero, suc, _*_, _≤_, _<_}
+use Prim.Native.Nat.{ℕ, _*_, _≤_, _<_}
 use native.Mathlib.Nat.{mul-le-mul}
 use native.Mathlib.Omega.{arith}
 use lib.ListN.{length}
@@ -13,20 +13,17 @@ use Rattle.table.specs.declared.Acceptance.the-variants.{Buchi}
 use Rattle.table.specs.declared.Finding.{Finding}
 use Rattle.table.specs.declared.Finding.the-variants.{Sound, Refused as Faulty}
 use Rattle.table.specs.Table.{Table, lent}
-use Rattle.table.specs.Refusal.{refusal, edgeRefusal, pick, either, wrongStates, wrongEdges, wrongStart, wrongCondition, wrongEnd, wrongOrder, wrongMark, mostStates, mostEdges}
-use Rattle.table.proofs.Sound.{Fit, sound-fit, used-few}
+use Rattle.table.specs.Refusal.{refusal, mostStates, mostEdges}
+use Rattle.table.proofs.Door.{CauseAt, refused-row}
+use Rattle.table.proofs.Sound.{Fit, sound-fit, used-few, either-false}
 use Rattle.one_mark.specs.declared.Translation.{Translation}
 use Rattle.one_mark.specs.declared.Translation.the-variants.{Made, Refused}
 use Rattle.one_mark.specs.Climb.{levels, number}
-use Rattle.one_mark.specs.Outcome.{large, short, answer, numberOf}
+use Rattle.one_mark.specs.Outcome.{large, short, answer, numberOf, placeOf}
 use Rattle.one_mark.specs.Writing.{Ladder}
 
-not-either : (a b : Bool) → either a b ≡ false → (a ≡ false) × (b ≡ false)
-not-either true b e = absurd (false≢true (sym e))
-not-either false b e = (refl, e)
-
 pub not-large : (states edges : ℕ) → large states edges ≡ false → states ≤ mostStates
-not-large states edges e = ltb-false mostStates states (not-either (ltb mostStates states) (ltb mostEdges edges) e .0)
+not-large states edges e = ltb-false mostStates states (either-false (ltb mostStates states) (ltb mostEdges edges) e .0)
 
 -- ---- the counts of a sound table
 
@@ -67,29 +64,26 @@ module _ (t : Table) (k a b c : ℕ) where
           → Made (t .states * levels k) (t .edges * levels k) (number k (t .start) 0) ≡ answer t k a b c
       answer-made e = rw (sound, fits, e)
 
--- ---- a refusal's number is not 0
+  -- one of the four tests decides
+  by-test : {C : Type 0} → ((number place : ℕ) → refusal t (Buchi k) [] ≡ Faulty number place → C)
+      → (refusal t (Buchi k) [] ≡ Sound → large (t .states * levels k) (t .edges * levels k) ≡ true → C)
+      → (refusal t (Buchi k) [] ≡ Sound → large (t .states * levels k) (t .edges * levels k) ≡ false → short (t .edges * levels k) a b c ≡ true → C)
+      → (refusal t (Buchi k) [] ≡ Sound → large (t .states * levels k) (t .edges * levels k) ≡ false → short (t .edges * levels k) a b c ≡ false → C)
+      → C
+  by-test {C} faulty over few made = by-finding (refusal t (Buchi k) []) refl
+    where
+      by-room : refusal t (Buchi k) [] ≡ Sound → large (t .states * levels k) (t .edges * levels k) ≡ false
+          → (s : Bool) → short (t .edges * levels k) a b c ≡ s → C
+      by-room q e true s = few q e s
+      by-room q e false s = made q e s
 
-abbrev Numbered : Finding → Type 0
-Numbered Sound = Unit
-Numbered (Faulty number place) = 0 < number
+      by-size : refusal t (Buchi k) [] ≡ Sound → (l : Bool) → large (t .states * levels k) (t .edges * levels k) ≡ l → C
+      by-size q true e = over q e
+      by-size q false e = by-room q e (short (t .edges * levels k) a b c) refl
 
-numbered-pick : (b : Bool) (f g : Finding) → Numbered f → Numbered g → Numbered (pick b f g)
-numbered-pick true f g x y = x
-numbered-pick false f g x y = y
-
-numbered-edges : (t : Table) (u e m : ℕ) → Numbered (edgeRefusal t u e m)
-numbered-edges t u e zero = tt
-numbered-edges t u e (suc m) =
-    numbered-pick (wrongEnd t e) (Faulty 5 e) _ (omega arith)
-    (numbered-pick (wrongOrder t e) (Faulty 6 e) _ (omega arith)
-    (numbered-pick (wrongMark t u e) (Faulty 7 e) _ (omega arith) (numbered-edges t u (suc e) m)))
-
-numbered : (t : Table) (k : ℕ) → Numbered (refusal t (Buchi k) [])
-numbered t k =
-    numbered-pick (wrongStates t) (Faulty 1 0) _ (omega arith)
-    (numbered-pick (wrongEdges t) (Faulty 2 0) _ (omega arith)
-    (numbered-pick (wrongStart t) (Faulty 3 0) _ (omega arith)
-    (numbered-pick (wrongCondition (Buchi k) []) (Faulty 4 0) _ (omega arith) (numbered-edges t k 0 (t .edges)))))
+      by-finding : (f : Finding) → refusal t (Buchi k) [] ≡ f → C
+      by-finding (Faulty number place) q = faulty number place q
+      by-finding Sound q = by-size q (large (t .states * levels k) (t .edges * levels k)) refl
 
 -- ---- what the number 0 says of the input and of the answer
 
@@ -107,13 +101,12 @@ module _ (t : Table) (k a b c : ℕ) (r : Translation) (answered : r ≡ answer 
   other : {C : Type 0} (q : Translation) → q ≡ answer t k a b c → 0 < numberOf q → C
   other q e l = absurd (omega (arith, ap numberOf (answered ∙ sym e)))
 
-  by-room : refusal t (Buchi k) [] ≡ Sound → large (t .states * levels k) (t .edges * levels k) ≡ false
-      → (s : Bool) → short (t .edges * levels k) a b c ≡ s → Granted t k a b c r
-  by-room q e true s = other (Refused 11 0) (answer-short t k a b c q e s) (omega arith)
-  by-room q e false s =
-      let counts = not-either (ltb mostStates (t .states * levels k)) _ e in
-      let one = not-either (ltb a (t .edges * levels k)) _ s in
-      let two = not-either (ltb b (t .edges * levels k)) _ (one .1) in
+  all-granted : refusal t (Buchi k) [] ≡ Sound → large (t .states * levels k) (t .edges * levels k) ≡ false
+      → short (t .edges * levels k) a b c ≡ false → Granted t k a b c r
+  all-granted q e s =
+      let counts = either-false (ltb mostStates (t .states * levels k)) _ e in
+      let one = either-false (ltb a (t .edges * levels k)) _ s in
+      let two = either-false (ltb b (t .edges * levels k)) _ (one .1) in
       record {
         sound = q;
         few = ltb-false mostStates (t .states * levels k) (counts .0);
@@ -124,13 +117,36 @@ module _ (t : Table) (k a b c : ℕ) (r : Translation) (answered : r ≡ answer 
         made = answered ∙ sym (answer-made t k a b c q e s);
       }
 
-  by-size : refusal t (Buchi k) [] ≡ Sound → (l : Bool) → large (t .states * levels k) (t .edges * levels k) ≡ l → Granted t k a b c r
-  by-size q true e = other (Refused 10 0) (answer-large t k a b c q e) (omega arith)
-  by-size q false e = by-room q e (short (t .edges * levels k) a b c) refl
-
-  by-finding : (f : Finding) → refusal t (Buchi k) [] ≡ f → Granted t k a b c r
-  by-finding (Faulty number place) q = other (Refused number place) (answer-faulty t k a b c number place q) (subst Numbered q (numbered t k))
-  by-finding Sound q = by-size q (large (t .states * levels k) (t .edges * levels k)) refl
-
   pub granted : Granted t k a b c r
-  granted = by-finding (refusal t (Buchi k) []) refl
+  granted =
+      by-test t k a b c
+      (λ number place q. other (Refused number place) (answer-faulty t k a b c number place q) (refused-row t (Buchi k) [] number place q .some))
+      (λ q e. other (Refused 10 0) (answer-large t k a b c q e) (omega arith))
+      (λ q e s. other (Refused 11 0) (answer-short t k a b c q e s) (omega arith))
+      all-granted
+
+-- ---- what another number says: rows 1 to 7 "in the same way", with the check's place; then 10 and 11, with place 0
+
+pub record RefusedRow (t : Table) (number place : ℕ) : Type 0 where
+  pub early : number ≤ 7 → CauseAt (t .edges) number place
+  pub late : 7 < number → (10 ≤ number) × ((number ≤ 11) × (place ≡ 0))
+
+module _ (t : Table) (k a b c : ℕ) (r : Translation) (answered : r ≡ answer t k a b c) (some : 0 < numberOf r) where
+  early-row : (number place : ℕ) → refusal t (Buchi k) [] ≡ Faulty number place → RefusedRow t number place
+  early-row number place q =
+      let row = refused-row t (Buchi k) [] number place q in
+      record { early = λ l. row; late = λ l. absurd (omega (arith, row .most)) }
+
+  late-row : (number : ℕ) → 10 ≤ number → number ≤ 11 → RefusedRow t number 0
+  late-row number l m = record { early = λ n. absurd (omega arith); late = λ n. (l, (m, refl)) }
+
+  as-answered : (q : Translation) → q ≡ answer t k a b c → RefusedRow t (numberOf q) (placeOf q) → RefusedRow t (numberOf r) (placeOf r)
+  as-answered q e = subst (λ (x : Translation). RefusedRow t (numberOf x) (placeOf x)) (e ∙ sym answered)
+
+  pub refused-at : RefusedRow t (numberOf r) (placeOf r)
+  refused-at =
+      by-test t k a b c
+      (λ number place q. as-answered (Refused number place) (answer-faulty t k a b c number place q) (early-row number place q))
+      (λ q e. as-answered (Refused 10 0) (answer-large t k a b c q e) (late-row 10 (omega arith) (omega arith)))
+      (λ q e s. as-answered (Refused 11 0) (answer-short t k a b c q e s) (late-row 11 (omega arith) (omega arith)))
+      (λ q e s. absurd (omega (arith, some, ap numberOf (answered ∙ sym (answer-made t k a b c q e s)))))

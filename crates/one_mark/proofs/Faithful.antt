@@ -11,10 +11,10 @@ use Rattle.one_mark.specs.declared.Translation.{Translation}
 use Rattle.one_mark.specs.declared.Translation.the-variants.{Made, Refused}
 use Rattle.one_mark.specs.Climb.{levels}
 use Rattle.one_mark.specs.Translated.{translated, liftedFrom, liftedTo, liftedMarks}
-use Rattle.one_mark.specs.Outcome.{Outcome, answer, numberOf, statesOf, edgesOf, startOf}
+use Rattle.one_mark.specs.Outcome.{Outcome, answer, numberOf, placeOf, statesOf, edgesOf, startOf}
 use Rattle.one_mark.specs.Faithful.{Positions, Faithful}
 use Rattle.one_mark.proofs.Accepted.{lent-again, translated-sound}
-use Rattle.one_mark.proofs.Answers.{fit, granted}
+use Rattle.one_mark.proofs.Answers.{fit, granted, RefusedRow, refused-at}
 use Rattle.one_mark.proofs.Correspond.{one-over, one-under}
 use Rattle.one_mark.proofs.Outcomes.{whole-length}
 use Rattle.one_mark.proofs.Position.{stands, cell-at, place-most, level-place, under-place}
@@ -99,3 +99,8 @@ pub refused-untouched : (t : Table) (k : ℕ) (l a b : List ℕ) (r : Translatio
     → Outcome t k l a b r l' a' b' → 0 < numberOf r → (l' ≡ l) × ((a' ≡ a) × (b' ≡ b))
 refused-untouched t k l a b (Made states edges start) l' a' b' o some = absurd (omega arith)
 refused-untouched t k l a b (Refused number place) l' a' b' o some = (o .from-held, (o .to-held, o .marks-held))
+
+-- .. and the number and place are those of a row
+pub refused-told : (t : Table) (k : ℕ) (l a b : List ℕ) (r : Translation) (l' a' b' : List ℕ)
+    → Outcome t k l a b r l' a' b' → 0 < numberOf r → RefusedRow t (numberOf r) (placeOf r)
+refused-told t k l a b r l' a' b' o some = refused-at t k (length l) (length a) (length b) r (o .answered) some

@@ -1,6 +1,6 @@
 -- The rows of a table and the order of the translated edges. Assumes nothing.
 use mathlib.Core.Path.{_≡_, refl, sym, ap, _∙_}
-use mathlib.Core.Bool.{Bool}
+use mathlib.Core.Bool.{Bool, cond}
 use mathlib.Core.List.{List, [], _∷_, _++_, append-nil}
 use Prim.Native.Nat.{ℕ, zero, suc, _+_, _-_, _*_, _≤_, _<_}
 use native.Mathlib.Nat.{zero-add}
@@ -10,7 +10,7 @@ use borrow.Author.Tests.{lt-ltb, le-ltb}
 use Rattle.marks.proofs.Cases.{below}
 use Rattle.table.specs.Table.{Table}
 use Rattle.table.specs.Refusal.{Proper}
-use Rattle.table.specs.Row.{oneMore, Row}
+use Rattle.table.specs.Row.{Row}
 use Rattle.table.proofs.Rows.{Sorted, sorted-far, Begins}
 use Rattle.one_mark.specs.Climb.{levels}
 use Rattle.one_mark.specs.Place.{front, rowStart, rowLength, each, levelCells, rowCells, inOrder}
@@ -20,10 +20,10 @@ use Rattle.one_mark.proofs.Numbers.{level-fits}
 -- ---- the front of a list
 
 front-more : (s x : ℕ) (xs : List ℕ) → x < s → front s (x ∷ xs) ≡ suc (front s xs)
-front-more s x xs l = ap (λ (b : Bool). oneMore b (front s xs)) (lt-ltb x s l)
+front-more s x xs l = ap (λ (b : Bool). cond b (suc (front s xs)) 0) (lt-ltb x s l)
 
 front-none : (s x : ℕ) (xs : List ℕ) → s ≤ x → front s (x ∷ xs) ≡ 0
-front-none s x xs l = ap (λ (b : Bool). oneMore b (front s xs)) (le-ltb x s l)
+front-none s x xs l = ap (λ (b : Bool). cond b (suc (front s xs)) 0) (le-ltb x s l)
 
 front-most : (s : ℕ) (xs : List ℕ) → front s xs ≤ length xs
 front-most s [] = omega arith

@@ -1,7 +1,7 @@
 -- What the translation answers and leaves in the lent outputs (document 01, "What comes back": "For the translation 1 to 7 in the same way, then
 -- 10, 11"). Assumes nothing.
 use mathlib.Core.Path.{_≡_}
-use mathlib.Core.Bool.{Bool, true, false}
+use mathlib.Core.Bool.{Bool, _||_, cond}
 use mathlib.Core.List.{List, [], _++_}
 use Prim.Native.Nat.{ℕ, _-_, _*_}
 use lib.Dec.{ltb}
@@ -10,7 +10,7 @@ use Rattle.table.specs.declared.Acceptance.the-variants.{Buchi}
 use Rattle.table.specs.declared.Finding.{Finding}
 use Rattle.table.specs.declared.Finding.the-variants.{Sound, Refused as Faulty}
 use Rattle.table.specs.Table.{Table, lent}
-use Rattle.table.specs.Refusal.{refusal, either, mostStates, mostEdges, Proper}
+use Rattle.table.specs.Refusal.{refusal, mostStates, mostEdges, Proper}
 use Rattle.one_mark.specs.declared.Translation.{Translation}
 use Rattle.one_mark.specs.declared.Translation.the-variants.{Made, Refused}
 use Rattle.one_mark.specs.Climb.{levels, number}
@@ -19,15 +19,11 @@ use Rattle.one_mark.specs.Writing.{Ladder, Room}
 
 -- row 10: a table to be made is above 4,096 states or 32,768 edges
 abbrev pub large : ℕ → ℕ → Bool
-large states edges = either (ltb mostStates states) (ltb mostEdges edges)
+large states edges = ltb mostStates states || ltb mostEdges edges
 
 -- row 11: a lent output, of the lengths a, b and c, is shorter than the translated edge count
 abbrev pub short : ℕ → ℕ → ℕ → ℕ → Bool
-short edges a b c = either (ltb a edges) (either (ltb b edges) (ltb c edges))
-
-abbrev pub first : Bool → Translation → Translation → Translation
-first true a b = a
-first false a b = b
+short edges a b c = ltb a edges || (ltb b edges || ltb c edges)
 
 -- a refusal of rows 1 to 7 comes first
 abbrev pub unless : Finding → Translation → Translation
@@ -38,8 +34,8 @@ unless (Faulty number place) r = Refused number place
 abbrev pub answer : Table → ℕ → ℕ → ℕ → ℕ → Translation
 answer t k a b c =
     unless (refusal t (Buchi k) [])
-    (first (large (t .states * levels k) (t .edges * levels k)) (Refused 10 0)
-    (first (short (t .edges * levels k) a b c) (Refused 11 0)
+    (cond (large (t .states * levels k) (t .edges * levels k)) (Refused 10 0)
+    (cond (short (t .edges * levels k) a b c) (Refused 11 0)
     (Made (t .states * levels k) (t .edges * levels k) (number k (t .start) 0))))
 
 -- what a lent output holds: after a table was made its list and then zeros; after a refusal what it held

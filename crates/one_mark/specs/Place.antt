@@ -1,11 +1,11 @@
 -- The order of the translated edges, and what follows from a position (document 01, "One-mark translation": "Translated edges stand by source
 -- state, then level, then the source edge's place in its row"). Assumes nothing.
+use mathlib.Core.Bool.{cond}
 use mathlib.Core.List.{List, [], _∷_, _++_}
 use Prim.Native.Nat.{ℕ, zero, suc, _+_, _-_, _*_, _/_, _%_}
 use lib.Dec.{ltb}
 use lib.ListN.{getD}
 use Rattle.table.specs.Table.{Table}
-use Rattle.table.specs.Row.{oneMore}
 use Rattle.one_mark.specs.Climb.{levels}
 
 -- ---- rows
@@ -13,7 +13,7 @@ use Rattle.one_mark.specs.Climb.{levels}
 -- how many cells at the front of a list hold a number below s
 abbrev pub front : ℕ → List ℕ → ℕ
 front s [] = 0
-front s (x ∷ xs) = oneMore (ltb x s) (front s xs)
+front s (x ∷ xs) = cond (ltb x s) (suc (front s xs)) 0
 
 -- the row of s begins at this edge, and ends before the one at which the next row begins (`Order.table-row`, in proofs/)
 abbrev pub rowStart : Table → ℕ → ℕ

@@ -1,7 +1,7 @@
 -- Rows and parts of a table, over any size: a place in a part is an edge's own number, and the row of a state is the run of edges
 -- that leave it. Assumes nothing.
 use mathlib.Core.Path.{_≡_, refl, sym, ap, _∙_, subst}
-use mathlib.Core.Bool.{Bool}
+use mathlib.Core.Bool.{Bool, cond}
 use mathlib.Core.List.{List, [], _∷_}
 use Prim.Native.Nat.{ℕ, zero, suc, _+_, _-_, _≤_, _<_}
 use native.Mathlib.Nat.{le-refl, le-trans, add-suc, add-zero}
@@ -10,7 +10,7 @@ use lib.ListN.{length, getD, drop, length-take, length-drop, drop-of-length-le}
 use lib.Seq.{drop-cons, getD-take, getD-drop}
 use borrow.Author.Tests.{eq-eqb, ne-eqb}
 use Rattle.marks.proofs.Cases.{same, below}
-use Rattle.table.specs.Row.{part, oneMore, run, Row}
+use Rattle.table.specs.Row.{part, run, Row}
 
 -- ---- a part of a list
 
@@ -25,10 +25,10 @@ part-at a b xs i h = rw (getD-take, getD-drop)
 
 module _ (s : ℕ) (xs : List ℕ) (i : ℕ) (h : i < length xs) where
   pub run-more : getD xs i 0 ≡ s → run s (drop i xs) ≡ suc (run s (drop (suc i) xs))
-  run-more e = ap (run s) (drop-cons xs i 0 h) ∙ ap (λ (b : Bool). oneMore b (run s (drop (suc i) xs))) (eq-eqb (getD xs i 0) s e)
+  run-more e = ap (run s) (drop-cons xs i 0 h) ∙ ap (λ (b : Bool). cond b (suc (run s (drop (suc i) xs))) 0) (eq-eqb (getD xs i 0) s e)
 
   pub run-none : (getD xs i 0 ≡ s → ⊥) → run s (drop i xs) ≡ 0
-  run-none e = ap (run s) (drop-cons xs i 0 h) ∙ ap (λ (b : Bool). oneMore b (run s (drop (suc i) xs))) (ne-eqb (getD xs i 0) s e)
+  run-none e = ap (run s) (drop-cons xs i 0 h) ∙ ap (λ (b : Bool). cond b (suc (run s (drop (suc i) xs))) 0) (ne-eqb (getD xs i 0) s e)
 
 pub run-over : (s : ℕ) (xs : List ℕ) (i : ℕ) → length xs ≤ i → run s (drop i xs) ≡ 0
 run-over s xs i h = ap (run s) (drop-of-length-le xs h)
@@ -36,29 +36,29 @@ run-over s xs i h = ap (run s) (drop-of-length-le xs h)
 -- the cells of a run, the cell after it, and where it ends
 pub run-inside : (s : ℕ) (xs : List ℕ) (i : ℕ) → i < run s xs → getD xs i 0 ≡ s
 run-inside s [] i h = absurd (omega arith)
-run-inside s (x ∷ xs) zero h = same x s (λ q. q) (λ q. absurd (omega (arith, ap (λ (b : Bool). oneMore b (run s xs)) (ne-eqb x s q))))
+run-inside s (x ∷ xs) zero h = same x s (λ q. q) (λ q. absurd (omega (arith, ap (λ (b : Bool). cond b (suc (run s xs)) 0) (ne-eqb x s q))))
 run-inside s (x ∷ xs) (suc i) h =
     same x s
-    (λ q. run-inside s xs i (omega (arith, ap (λ (b : Bool). oneMore b (run s xs)) (eq-eqb x s q))))
-    (λ q. absurd (omega (arith, ap (λ (b : Bool). oneMore b (run s xs)) (ne-eqb x s q))))
+    (λ q. run-inside s xs i (omega (arith, ap (λ (b : Bool). cond b (suc (run s xs)) 0) (eq-eqb x s q))))
+    (λ q. absurd (omega (arith, ap (λ (b : Bool). cond b (suc (run s xs)) 0) (ne-eqb x s q))))
 
 pub run-after : (s : ℕ) (xs : List ℕ) → run s xs < length xs → getD xs (run s xs) 0 ≡ s → ⊥
 run-after s [] h e = absurd (omega arith)
 run-after s (x ∷ xs) h e =
     same x s
     (λ q.
-    let r : run s (x ∷ xs) ≡ suc (run s xs) = ap (λ (b : Bool). oneMore b (run s xs)) (eq-eqb x s q) in
+    let r : run s (x ∷ xs) ≡ suc (run s xs) = ap (λ (b : Bool). cond b (suc (run s xs)) 0) (eq-eqb x s q) in
     run-after s xs (omega arith) (subst (λ (k : ℕ). getD (x ∷ xs) k 0 ≡ s) r e))
     (λ q.
-    let r : run s (x ∷ xs) ≡ 0 = ap (λ (b : Bool). oneMore b (run s xs)) (ne-eqb x s q) in
+    let r : run s (x ∷ xs) ≡ 0 = ap (λ (b : Bool). cond b (suc (run s xs)) 0) (ne-eqb x s q) in
     q (subst (λ (k : ℕ). getD (x ∷ xs) k 0 ≡ s) r e))
 
 pub run-most : (s : ℕ) (xs : List ℕ) → run s xs ≤ length xs
 run-most s [] = omega arith
 run-most s (x ∷ xs) =
     same x s
-    (λ q. omega (arith, run-most s xs, ap (λ (b : Bool). oneMore b (run s xs)) (eq-eqb x s q)))
-    (λ q. omega (arith, ap (λ (b : Bool). oneMore b (run s xs)) (ne-eqb x s q)))
+    (λ q. omega (arith, run-most s xs, ap (λ (b : Bool). cond b (suc (run s xs)) 0) (eq-eqb x s q)))
+    (λ q. omega (arith, ap (λ (b : Bool). cond b (suc (run s xs)) 0) (ne-eqb x s q)))
 
 -- ---- the rows of a sorted list
 
@@ -99,7 +99,8 @@ module _ (from : List ℕ) (up : Sorted from) (s a : ℕ) (b : Begins from s a) 
 
       past : (r : ℕ) → run s (drop a from) ≡ r → a + r < length from → s < getD from (a + r) 0
       past r q h =
-          let ne : getD from (a + r) 0 ≡ s → ⊥ = λ z. run-after s (drop a from) (omega (arith, length-drop a from)) (ap (λ (j : ℕ). getD (drop a from) j 0) q ∙ getD-drop a from r 0 ∙ z) in
+          let ne : getD from (a + r) 0 ≡ s → ⊥ =
+          λ z. run-after s (drop a from) (omega (arith, length-drop a from)) (ap (λ (j : ℕ). getD (drop a from) j 0) q ∙ getD-drop a from r 0 ∙ z) in
           let ge : s ≤ getD from (a + r) 0 = b .larger (a + r) (omega arith) h in
           omega arith
 

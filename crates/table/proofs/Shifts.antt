@@ -2,7 +2,7 @@
 -- premises about the table at hand are checked edge by edge (`each`, `each-step`). Assumes nothing.
 use mathlib.Core.Path.{_≡_, refl, sym, subst, subst₂}
 use mathlib.Core.Logic.{_≢_}
-use mathlib.Core.List.{List, [], _∷_, List·Memᴰ·head}
+use mathlib.Core.List.{List, [], _∷_, _++_, List·Memᴰ·head}
 use Prim.Native.Nat.{ℕ, zero, suc, _≤_, _<_}
 use native.Mathlib.Omega.{arith}
 use lib.ListN.{length, getD}
@@ -13,7 +13,7 @@ use Rattle.table.specs.Table.{Table, Step, Walk, Lasso, borne, marksOf}
 use Rattle.table.specs.Condition.{MeetsPair}
 use Rattle.table.specs.Refusal.{MarksBelow}
 use Rattle.table.specs.Shifts.{ShiftCases, tableA, plainLoop, markedLoop, loopAndWayRound, noEdges, loopOutOfReach, twoComponents, needOne}
-use Rattle.table.proofs.Walks.{BearingStep, has-marks, walk-bears, marks-fit, closed-arrives, closed-keeps, dead-start}
+use Rattle.table.proofs.Walks.{BearingStep, has-marks, walk-bears, marks-fit, closed-arrives, closed-keeps, dead-lasso}
 
 -- ---- a fact about every number below n is checked number by number, one about every step of a table edge by edge
 
@@ -101,12 +101,14 @@ shift-cases =
       case-6 = record { prefix = []; cycle = 0 ∷ []; accepted = record { lasso = around plainLoop 0 (omega arith); meets = each _ 1 (omega arith) } };
       case-7 = record { lasso = around loopAndWayRound 0 (omega arith); meets = each _ 1 (omega arith) };
       -- the start is a state without edges
-      case-8 = λ p c a. dead-start noEdges p c (a .lasso) (omega arith);
+      case-8 = λ p c a. dead-lasso noEdges p c (a .lasso) [] 0 (p ++ c) refl (omega arith) refl;
       case-9 = record { prefix = []; cycle = 0 ∷ []; accepted = record { lasso = around plainLoop 0 (omega arith); meets = each _ 0 tt } };
       -- there is no pair below 0
       case-10 = λ p c a. omega (arith, a .meets .below);
       -- the start is a state without edges
-      case-11 = λ p c a. dead-start loopOutOfReach p c (a .lasso) (λ e s' q. each-step loopOutOfReach (λ e s s'. s ≢ 0) (omega arith) e 0 s' q refl);
+      case-11 = λ p c a.
+          dead-lasso loopOutOfReach p c (a .lasso) [] 0 (p ++ c) refl
+          (λ e s' q. each-step loopOutOfReach (λ e s s'. s ≢ 0) (omega arith) e 0 s' q refl) refl;
       -- edges that bear mark 1 leave state 1, which is never left again, and those that bear mark 0 leave state 0
       case-12 = λ p c a.
           never-both twoComponents p c (a .lasso) (λ s. s ≡ 1) 1 0 (each-step twoComponents _ (omega arith)) (each-step twoComponents _ (omega arith))

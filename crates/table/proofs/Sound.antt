@@ -1,6 +1,6 @@
 -- Exactly the proper tables whose edges bear only marks that a permitted condition uses are found sound. Assumes nothing.
 use mathlib.Core.Path.{_≡_, refl, sym, ap, _∙_, subst}
-use mathlib.Core.Bool.{Bool, true, false, not, true≢false}
+use mathlib.Core.Bool.{Bool, true, false, not, _||_, cond, true≢false}
 use mathlib.Core.List.{List}
 use Prim.Native.Nat.{ℕ, zero, suc, _+_, _^_, _≤_, _<_}
 use native.Mathlib.Omega.{arith}
@@ -15,23 +15,24 @@ use Rattle.table.specs.declared.Finding.{Finding}
 use Rattle.table.specs.declared.Finding.the-variants.{Sound, Refused}
 use Rattle.table.specs.Table.{Table, borne, lent}
 use Rattle.table.specs.Condition.{dealt}
-use Rattle.table.specs.Refusal.{either, someNeed, used, wrongStates, wrongEdges, wrongStart, wrongCondition, wrongEnd, wrongOrder, wrongMark, pick, edgeRefusal, refusal, mostStates, mostEdges, Proper, MarksBelow}
+use Rattle.table.specs.Refusal.{someNeed, used, wrongStates, wrongEdges, wrongStart, wrongCondition, wrongEnd, wrongOrder, wrongMark}
+use Rattle.table.specs.Refusal.{edgeRefusal, refusal, mostStates, mostEdges, Proper, MarksBelow}
 
 -- ---- the tests, taken apart and put together
 
-pub either-false : (a b : Bool) → either a b ≡ false → (a ≡ false) × (b ≡ false)
+pub either-false : (a b : Bool) → (a || b) ≡ false → (a ≡ false) × (b ≡ false)
 either-false true b e = absurd (true≢false e)
 either-false false b e = (refl, e)
 
-neither : (a b : Bool) → a ≡ false → b ≡ false → either a b ≡ false
-neither a b p q = ap (λ (x : Bool). either x b) p ∙ q
+neither : (a b : Bool) → a ≡ false → b ≡ false → (a || b) ≡ false
+neither a b p q = ap (λ (x : Bool). x || b) p ∙ q
 
-pick-sound : (b : Bool) (number place : ℕ) (f : Finding) → pick b (Refused number place) f ≡ Sound → (b ≡ false) × (f ≡ Sound)
-pick-sound true number place f e = let z : _≡_ {A = ℕ} 0 1 = cc in absurd (omega arith)
-pick-sound false number place f e = (refl, e)
+cond-sound : (b : Bool) (number place : ℕ) (f : Finding) → cond b (Refused number place) f ≡ Sound → (b ≡ false) × (f ≡ Sound)
+cond-sound true number place f e = let z : _≡_ {A = ℕ} 0 1 = cc in absurd (omega arith)
+cond-sound false number place f e = (refl, e)
 
-passed : (b : Bool) (g f : Finding) → b ≡ false → f ≡ Sound → pick b g f ≡ Sound
-passed b g f p q = ap (λ (x : Bool). pick x g f) p ∙ q
+passed : (b : Bool) (g f : Finding) → b ≡ false → f ≡ Sound → cond b g f ≡ Sound
+passed b g f p q = ap (λ (x : Bool). cond x g f) p ∙ q
 
 same-test : (a b : ℕ) → not (eqb a b) ≡ false → a ≡ b
 same-test a b h = eqb-true a b (not-false (eqb a b) h)
@@ -62,9 +63,9 @@ pub record EdgeFit (t : Table) (u e : ℕ) : Type 0 where
 edges-fit : (t : Table) (u e k : ℕ) → edgeRefusal t u e k ≡ Sound → (i : ℕ) → e ≤ i → i < e + k → EdgeFit t u i
 edges-fit t u e zero h i l b = absurd (omega arith)
 edges-fit t u e (suc k) h i l b =
-    let five = pick-sound (wrongEnd t e) 5 e _ h in
-    let six = pick-sound (wrongOrder t e) 6 e _ (five .1) in
-    let seven = pick-sound (wrongMark t u e) 7 e _ (six .1) in
+    let five = cond-sound (wrongEnd t e) 5 e _ h in
+    let six = cond-sound (wrongOrder t e) 6 e _ (five .1) in
+    let seven = cond-sound (wrongMark t u e) 7 e _ (six .1) in
     let ends = either-false (leb (t .states) (getD (t .from) e 0)) _ (five .0) in
     same i e
     (λ q. subst (EdgeFit t u) (sym q) (record {
@@ -75,11 +76,13 @@ edges-fit t u e (suc k) h i l b =
     }))
     (λ q. edges-fit t u (suc e) k (seven .1) i (omega arith) (omega arith))
 
-fit-edges : (t : Table) (u e k : ℕ) → ((i : ℕ) → e ≤ i → i < e + k → EdgeFit t u i) → edgeRefusal t u e k ≡ Sound
+pub fit-edges : (t : Table) (u e k : ℕ) → ((i : ℕ) → e ≤ i → i < e + k → EdgeFit t u i) → edgeRefusal t u e k ≡ Sound
 fit-edges t u e zero f = refl
 fit-edges t u e (suc k) f =
     let g = f e (omega arith) (omega arith) in
-    passed (wrongEnd t e) (Refused 5 e) _ (neither (leb (t .states) (getD (t .from) e 0)) _ (lt-leb (t .states) (getD (t .from) e 0) (g .leaves)) (lt-leb (t .states) (getD (t .to) e 0) (g .arrives)))
+    let leaves = lt-leb (t .states) (getD (t .from) e 0) (g .leaves) in
+    let arrives = lt-leb (t .states) (getD (t .to) e 0) (g .arrives) in
+    passed (wrongEnd t e) (Refused 5 e) _ (neither (leb (t .states) (getD (t .from) e 0)) _ leaves arrives)
     (passed (wrongOrder t e) (Refused 6 e) _ (g .order)
     (passed (wrongMark t u e) (Refused 7 e) _ (lt-leb (2 ^ u) (borne t e) (g .marks)) (fit-edges t u (suc e) k (λ i l b. f i (omega arith) (omega arith)))))
 
@@ -102,10 +105,10 @@ module _ (n start : ℕ) (from to marks : List ℕ) (c : Acceptance) (needs : Li
   pub sound-fit : refusal (lent n start from to marks) c needs ≡ Sound → Fit (lent n start from to marks) c needs
   unfolding t
   sound-fit h =
-      let one = pick-sound (wrongStates t) 1 0 _ h in
-      let two = pick-sound (wrongEdges t) 2 0 _ (one .1) in
-      let three = pick-sound (wrongStart t) 3 0 _ (two .1) in
-      let four = pick-sound (wrongCondition c needs) 4 0 _ (three .1) in
+      let one = cond-sound (wrongStates t) 1 0 _ h in
+      let two = cond-sound (wrongEdges t) 2 0 _ (one .1) in
+      let three = cond-sound (wrongStart t) 3 0 _ (two .1) in
+      let four = cond-sound (wrongCondition c needs) 4 0 _ (three .1) in
       let states = either-false (eqb n 0) _ (one .0) in
       let lengths = either-false (not (eqb (length from) (length to))) _ (two .0) in
       let rest = either-false (not (eqb (length from) (length marks))) _ (lengths .1) in

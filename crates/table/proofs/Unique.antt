@@ -1,18 +1,12 @@
--- Two results that a contract of this crate allows for one input are equal: each contract gives its result by an equation. Assumes nothing.
-use mathlib.Core.Path.{_≡_}
-use mathlib.Core.List.{List}
-use Prim.Native.Nat.{ℕ}
-use Rattle.marks.proofs.Unique.{given-once}
-use Rattle.table.specs.declared.Acceptance.{Acceptance}
-use Rattle.table.specs.declared.Finding.{Finding}
-use Rattle.table.specs.Table.{Table}
-use Rattle.table.specs.Refusal.{refusal}
-use Rattle.table.specs.Row.{run}
+-- Any two results that a contract of this crate allows for one input are equal. Each theorem is about the contract itself, as src/ writes it: `Post` is what
+-- the check makes of a function's `ensures`. Assumes nothing.
+use mathlib.Core.Path.{sym, _∙_}
+use Rattle.marks.proofs.Unique.{OneResult}
+use Rattle.table.proofs.check.Reads as check
+use Rattle.table.proofs.row.run.Reads as run
 
--- `check`
-pub found-once : (t : Table) (c : Acceptance) (needs : List ℕ) (r s : Finding) → r ≡ refusal t c needs → s ≡ refusal t c needs → r ≡ s
-found-once t c needs r s p q = given-once p q
+pub found-once : OneResult check.Post
+found-once κ a r s e f p q = p ∙ sym q
 
--- `row::run`
-pub run-once : (state : ℕ) (part : List ℕ) (r s : ℕ) → r ≡ run state part → s ≡ run state part → r ≡ s
-run-once state part r s p q = given-once p q
+pub run-once : OneResult run.Post
+run-once κ a r s e f p q = p ∙ sym q

@@ -1,6 +1,6 @@
 -- Rows 1 to 7 of document 01's table, in the stated order: the first cause, with its number and place. Assumes nothing.
 use mathlib.Core.Path.{_≡_}
-use mathlib.Core.Bool.{Bool, true, false, not}
+use mathlib.Core.Bool.{Bool, false, not, _||_, cond}
 use mathlib.Core.List.{List, [], _∷_}
 use Prim.Native.Nat.{ℕ, zero, suc, _*_, _/_, _^_, _≤_, _<_}
 use lib.Dec.{ltb, leb, eqb}
@@ -30,14 +30,10 @@ mostRabin = 8
 
 -- ---- tests
 
-abbrev pub either : Bool → Bool → Bool
-either true b = true
-either false b = b
-
 -- some number of the list is not 0
 abbrev pub someNeed : List ℕ → Bool
 someNeed [] = false
-someNeed (d ∷ ds) = either (ltb 0 d) (someNeed ds)
+someNeed (d ∷ ds) = ltb 0 d || someNeed ds
 
 -- how many marks the condition uses: they are 0 up to this number less one
 abbrev pub used : Acceptance → List ℕ → ℕ
@@ -47,13 +43,14 @@ used (Rabin p) needs = dealt needs p
 
 -- row 1: n is 0 or above 4,096
 abbrev pub wrongStates : Table → Bool
-wrongStates t = either (eqb (t .states) 0) (ltb mostStates (t .states))
+wrongStates t = eqb (t .states) 0 || ltb mostStates (t .states)
 
 -- row 2: the three edge tables differ in length, or m above 32,768
 abbrev pub wrongEdges : Table → Bool
 wrongEdges t =
-    either (not (eqb (length (t .from)) (length (t .to))))
-    (either (not (eqb (length (t .from)) (length (t .marks)))) (ltb mostEdges (t .edges)))
+    not (eqb (length (t .from)) (length (t .to)))
+    || (not (eqb (length (t .from)) (length (t .marks)))
+    || ltb mostEdges (t .edges))
 
 -- row 3: start not below n
 abbrev pub wrongStart : Table → Bool
@@ -63,11 +60,11 @@ wrongStart t = leb (t .states) (t .start)
 abbrev pub wrongCondition : Acceptance → List ℕ → Bool
 wrongCondition (Buchi k) needs = ltb width k
 wrongCondition (Streett p) needs = ltb mostStreett p
-wrongCondition (Rabin p) needs = either (ltb mostRabin p) (either (someNeed (drop p needs)) (ltb width (dealt needs p)))
+wrongCondition (Rabin p) needs = ltb mostRabin p || (someNeed (drop p needs) || ltb width (dealt needs p))
 
 -- row 5: an edge end not below n
 abbrev pub wrongEnd : Table → ℕ → Bool
-wrongEnd t e = either (leb (t .states) (getD (t .from) e 0)) (leb (t .states) (getD (t .to) e 0))
+wrongEnd t e = leb (t .states) (getD (t .from) e 0) || leb (t .states) (getD (t .to) e 0)
 
 -- row 6: an edge's from below the one before it
 abbrev pub wrongOrder : Table → ℕ → Bool
@@ -80,29 +77,25 @@ wrongMark t u e = leb (2 ^ u) (borne t e)
 
 -- ---- the first cause
 
-abbrev pub pick : Bool → Finding → Finding → Finding
-pick true a b = a
-pick false a b = b
-
 -- among k edges from edge e on: the first faulty edge decides, and 5, 6, 7 in that order within it
 abbrev pub edgeRefusal : Table → ℕ → ℕ → ℕ → Finding
 edgeRefusal t u e zero = Sound
 edgeRefusal t u e (suc k) =
-    pick (wrongEnd t e) (Refused 5 e)
-    (pick (wrongOrder t e) (Refused 6 e)
-    (pick (wrongMark t u e) (Refused 7 e)
+    cond (wrongEnd t e) (Refused 5 e)
+    (cond (wrongOrder t e) (Refused 6 e)
+    (cond (wrongMark t u e) (Refused 7 e)
     (edgeRefusal t u (suc e) k)))
 
 -- 1, 2, 3, 4; then edges from 0 up
 abbrev pub refusal : Table → Acceptance → List ℕ → Finding
 refusal t c needs =
-    pick (wrongStates t) (Refused 1 0)
-    (pick (wrongEdges t) (Refused 2 0)
-    (pick (wrongStart t) (Refused 3 0)
-    (pick (wrongCondition c needs) (Refused 4 0)
+    cond (wrongStates t) (Refused 1 0)
+    (cond (wrongEdges t) (Refused 2 0)
+    (cond (wrongStart t) (Refused 3 0)
+    (cond (wrongCondition c needs) (Refused 4 0)
     (edgeRefusal t (used c needs) 0 (t .edges)))))
 
--- ---- document 01's number and place for each answer: 0 and 0 where nothing is found
+-- ---- document 01's number and place for each answer: 0 and 0 where nothing is found (`Door.check-told`, in proofs/, says what they tell)
 
 abbrev pub numberOf : Finding → ℕ
 numberOf Sound = 0
@@ -112,7 +105,8 @@ abbrev pub placeOf : Finding → ℕ
 placeOf Sound = 0
 placeOf (Refused number place) = place
 
--- ---- what a table that is not refused is (`Refusal.sound`, in proofs/: exactly these tables are found sound)
+-- ---- what a table that is not refused is (`Sound.sound-fit` and `Sound.fit-sound`, in proofs/: exactly these tables, with a permitted condition and no
+-- mark that it does not use, are found sound)
 
 pub record Proper (t : Table) : Type 0 where
   pub some : 0 < t .states

@@ -1,7 +1,7 @@
 -- The row of a state (document 01: "the row of a state is one unbroken run of edge numbers, handed on as a part of the tables").
 -- Assumes nothing.
 use mathlib.Core.Path.{_≡_}
-use mathlib.Core.Bool.{Bool, true, false}
+use mathlib.Core.Bool.{cond}
 use mathlib.Core.List.{List, [], _∷_}
 use Prim.Native.Nat.{ℕ, suc, _-_, _≤_, _<_}
 use lib.Dec.{eqb}
@@ -11,14 +11,10 @@ use lib.ListN.{length, getD, take, drop}
 abbrev pub part : ℕ → ℕ → List ℕ → List ℕ
 part a b xs = take (b - a) (drop a xs)
 
-abbrev pub oneMore : Bool → ℕ → ℕ
-oneMore true k = suc k
-oneMore false k = 0
-
 -- how many cells at the front of a list hold s
 abbrev pub run : ℕ → List ℕ → ℕ
 run s [] = 0
-run s (x ∷ xs) = oneMore (eqb x s) (run s xs)
+run s (x ∷ xs) = cond (eqb x s) (suc (run s xs)) 0
 
 -- the edges a up to b are the row of s: they are exactly those that leave s
 pub record Row (from : List ℕ) (s a b : ℕ) : Type 0 where

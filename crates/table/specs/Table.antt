@@ -29,6 +29,10 @@ abbrev pub Walk : Table → ℕ → List ℕ → ℕ → Type 0
 Walk t s [] z = s ≡ z
 Walk t s (e ∷ es) z = (s' : ℕ) × (Step t e s s' × Walk t s' es z)
 
+-- a state without edges: none leaves it
+abbrev pub Dead : Table → ℕ → Type 0
+Dead t s = (e s' : ℕ) → Step t e s s' → ⊥
+
 -- a walk from the start, perhaps empty, and a non-empty walk from its end back to it
 pub record Lasso (t : Table) (prefix cycle : List ℕ) : Type 0 where
   pub knot : ℕ

@@ -82,5 +82,5 @@ pub fn check(
         return refused(4);
     }
     let used = condition::used_marks(condition, needs);
-    edges::first_fault(n, start, from, to, marks, used)
+    edges::check_edges(n, from, to, marks, used)
 }

@@ -1,6 +1,7 @@
 -- `printer::put_answer` meets its contract: the lists are the cells of the room that are there (`lists-there`). Assumes nothing.
 use denote.Ref.{now}
-use Rattle.job_text.specs.Printed.{prefixOf, cycleOf, answerText}
+use Rattle.table.specs.Verdict.{prefixOf, cycleOf}
+use Rattle.job_text.specs.Printed.{answerText}
 use Rattle.job_text.proofs.Puts.{put-both, lists-there}
 use borrow.Author.Needs.{needs}
 use Rattle.job_text.proofs.printer.put_answer.Statement.{statement}

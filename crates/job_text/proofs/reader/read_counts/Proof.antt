@@ -5,7 +5,7 @@ use denote.Ref.{now}
 use lib.ListN.{drop}
 use Rattle.job_text.specs.Text.{lines}
 use Rattle.job_text.specs.Value.{number, needs, mostCount}
-use Rattle.job_text.specs.Job.{says, asked, above, unlimited, mostEdges, count=, need=, edges=}
+use Rattle.job_text.specs.Job.{says, asked, above, unlimited, mostJobEdges, count=, need=, edges=}
 use Rattle.job_text.proofs.Heads.{number-stops, number-goes, step-stops, step-goes, says-below, count-stops, need-stops, edges-stop, edges-go, head-stops}
 use native.Mathlib.Omega.{arith}
 use borrow.Author.Needs.{needs as simple}
@@ -119,7 +119,7 @@ returns-4 c =
     let sized = number-goes (now (a .text)) (c .before .sized .given .1) (c .before .before .before .number-line2 .ensures) in
     record {
       is = sym (edges-go (a .states) (a .start) (a .kind) (a .line) (lines (drop (a .at) (now (a .text)))) _ _ (counts (c .before .before .before .before .before .before .before .before .before .before)) _ _ (needs-said (c .before .before .before .before .before .before)) _ _ sized);
-      few = says-below edges= mostEdges (lines (drop (c .before .before .before .before .before .before .before .step .given .0 .0) (now (a .text)))) _ _ sized;
+      few = says-below edges= mostJobEdges (lines (drop (c .before .before .before .before .before .before .before .step .given .0 .0) (now (a .text)))) _ _ sized;
       early = omega (arith, c .before .before .before .before .before .before .before .before .before .before .before .before .before .before .before .before .before .pre);
     }
 

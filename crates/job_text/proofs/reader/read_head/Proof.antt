@@ -4,7 +4,7 @@ use denote.Ref.{now}
 use lib.ListN.{drop}
 use Rattle.job_text.specs.Text.{lines}
 use Rattle.job_text.specs.Value.{number, mostNumber}
-use Rattle.job_text.specs.Job.{says, asked, above, mostStates, states=, start=, found, kindLine}
+use Rattle.job_text.specs.Job.{says, asked, above, mostJobStates, states=, start=, found, kindLine}
 use Rattle.job_text.specs.Given.{kindFound}
 use Rattle.job_text.proofs.Heads.{number-stops, number-goes, states-stop, start-stops, kind-stops, kind-goes, kind-next, head-stops}
 use native.Mathlib.Omega.{arith}
@@ -18,7 +18,7 @@ slice-aggregate-number-line c = search needs
 -- what the first line says
 states-said : (c : tie.After-known-told)
     → let text = now (c .before .before .before .before .before .before .args .text) in
-    asked states= number (above mostStates) (lines text) ≡ says (c .before .first .given .0 .0) (lines (drop (c .before .first .given .0 .1 .0) text))
+    asked states= number (above mostJobStates) (lines text) ≡ says (c .before .first .given .0 .0) (lines (drop (c .before .first .given .0 .1 .0) text))
 states-said c = number-goes (now (c .before .before .before .before .before .before .args .text)) (c .before .first .given .1) (c .before .before .before .number-line .ensures)
 
 -- and the second

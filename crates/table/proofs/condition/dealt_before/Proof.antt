@@ -53,9 +53,9 @@ loop-again c =
 
 returns : tie.Need-returns Inv-loop μ-loop
 returns c =
-    let l = c .before in
-    let e : l .loop .i ≡ l .before .args .p = omega arith in
-    l .loop .inv .1 .1 .0 ∙ ap (dealt (l .before .args .t2)) e
+    let at-loop = c .before in
+    let e : at-loop .loop .i ≡ at-loop .before .args .p = omega arith in
+    at-loop .loop .inv .1 .1 .0 ∙ ap (dealt (at-loop .before .args .t2)) e
 
 pub dealt-before-spec : {M : Type 1} → statement M
 dealt-before-spec =

@@ -27,9 +27,9 @@ array-read-if1 c = search needs
 
 returns : tie.Need-returns Inv-loop μ-loop
 returns c =
-    let l = c .before .before in
-    let eight : length (l .before .args .t2) ≡ 8 = search needs in
-    sym (l .loop .inv .1 ∙ need-found (l .before .args .t2) (l .loop .i) (omega arith) (c .if1 .taken))
+    let at-loop = c .before .before in
+    let eight : length (at-loop .before .args .t2) ≡ 8 = search needs in
+    sym (at-loop .loop .inv .1 ∙ need-found (at-loop .before .args .t2) (at-loop .loop .i) (omega arith) (c .if1 .taken))
 
 add-i : tie.Need-add-i Inv-loop μ-loop
 add-i c = search needs
@@ -39,15 +39,15 @@ loop-less c = search needs
 
 loop-again : tie.Need-loop-again Inv-loop μ-loop
 loop-again c =
-    let l = c .before .before in
-    let eight : length (l .before .args .t2) ≡ 8 = search needs in
-    (omega arith, l .loop .inv .1 ∙ need-passed (l .before .args .t2) (l .loop .i) (omega arith) (c .if1 .left))
+    let at-loop = c .before .before in
+    let eight : length (at-loop .before .args .t2) ≡ 8 = search needs in
+    (omega arith, at-loop .loop .inv .1 ∙ need-passed (at-loop .before .args .t2) (at-loop .loop .i) (omega arith) (c .if1 .left))
 
 returns-2 : tie.Need-returns-2 Inv-loop μ-loop
 returns-2 c =
-    let l = c .before in
-    let eight : length (l .before .args .t2) ≡ 8 = search needs in
-    sym (l .loop .inv .1 ∙ need-over (l .before .args .t2) (l .loop .i) (omega arith))
+    let at-loop = c .before in
+    let eight : length (at-loop .before .args .t2) ≡ 8 = search needs in
+    sym (at-loop .loop .inv .1 ∙ need-over (at-loop .before .args .t2) (at-loop .loop .i) (omega arith))
 
 pub some-need-spec : {M : Type 1} → statement M
 some-need-spec =

@@ -1,32 +1,26 @@
--- `edges::first_fault` meets its contract. The invariant: the first cause among all edges is the first among those from e on, and
--- `before` is the from state of the edge before e. Each test is one of the rows (`Faults`). The measure is the edges left. Assumes nothing.
-use mathlib.Core.Path.{_≡_, refl, sym, ap, _∙_}
-use Prim.Native.Nat.{ℕ, suc, _+_, _-_, _^_, _≤_, _<_}
-use native.Mathlib.Nat.{sub-zero}
-use native.Mathlib.Numerals.{add-one}
+-- `edges::first_fault` meets its contract. The invariant: the edges below e are passed (`Passed`). Each test is one of the rows (`Faults`). The measure is
+-- the edges left. Assumes nothing.
+use mathlib.Core.Path.{_∙_}
+use Prim.Native.Nat.{_-_}
 use native.Mathlib.Omega.{arith}
-use lib.ListN.{getD, length}
+use lib.ListN.{length}
 use borrow.Author.Needs.{needs}
 use Rattle.table.specs.Table.{lent}
-use Rattle.table.proofs.Faults.{five-leaves, five-arrives, six, seven, faultless, decided, uncovered, covered}
-use Rattle.table.specs.Refusal.{edgeRefusal}
+use Rattle.table.proofs.Faults.{Passed, none-passed, all-passed, five-leaves, five-arrives, six, seven, one-passed, uncovered, covered}
 use Rattle.table.proofs.edges.first_fault.Statement.{statement}
-use Rattle.table.proofs.Faults as faults
 use Rattle.table.proofs.edges.first_fault.Tie as tie
 
 abbrev Inv-loop : tie.InvT-loop
-Inv-loop n start from to marks used allowed before₀ e₀ before e = (e ≤ length from) × ((before ≡ faults.before from e) × (edgeRefusal (lent n start from to marks) used 0 (length from) ≡ edgeRefusal (lent n start from to marks) used e (length from - e)))
+Inv-loop n from to marks used allowed before₀ e₀ before e = Passed (lent n 0 from to marks) used e before
 
 abbrev μ-loop : tie.MeasureT-loop
-μ-loop n start from to marks used allowed before₀ e₀ before e = length from - e
+μ-loop n from to marks used allowed before₀ e₀ before e = length from - e
 
 first-marks-requires : tie.Need-first-marks-requires Inv-loop μ-loop
 first-marks-requires c κs = search needs
 
 loop-holds : tie.Need-loop-holds Inv-loop μ-loop
-loop-holds c =
-    let a = c .before .before .before .before .args in
-    (omega arith, (refl, sym (ap (edgeRefusal (lent (a .n) (a .start) (a .from .now) (a .to .now) (a .marks .now)) (a .used) 0) (sub-zero (length (a .from .now))))))
+loop-holds c = none-passed _ _
 
 mul-leaves : tie.Need-mul-leaves Inv-loop μ-loop
 mul-leaves c = search needs
@@ -34,15 +28,13 @@ mul-leaves c = search needs
 shared-slice-read-leaves : tie.Need-shared-slice-read-leaves Inv-loop μ-loop
 shared-slice-read-leaves c = search needs
 
-cast-t15 : tie.Need-cast-t15 Inv-loop μ-loop
-cast-t15 c = search needs
+refused-at-requires : tie.Need-refused-at-requires Inv-loop μ-loop
+refused-at-requires c κs = search needs
 
 returns : tie.Need-returns Inv-loop μ-loop
 returns c =
-    let l = c .before .before .before in
-    let a = l .before .before .before .before .before .args in
-    let t = lent (a .n) (a .start) (a .from .now) (a .to .now) (a .marks .now) in
-    sym (decided t (a .used) (l .loop .e) (c .before .before .loop-test .taken) (l .loop .inv .1 .1) (five-leaves t (a .used) (l .loop .e) (t .edges - suc (l .loop .e)) (c .if1 .taken)))
+    let at-loop = c .before .before .before .before in
+    c .refused-at .ensures ∙ five-leaves _ _ _ _ (at-loop .loop .inv) (omega arith) (c .before .if1 .taken)
 
 mul-if2 : tie.Need-mul-if2 Inv-loop μ-loop
 mul-if2 c = search needs
@@ -50,25 +42,21 @@ mul-if2 c = search needs
 shared-slice-read-if2 : tie.Need-shared-slice-read-if2 Inv-loop μ-loop
 shared-slice-read-if2 c = search needs
 
-cast-t17 : tie.Need-cast-t17 Inv-loop μ-loop
-cast-t17 c = search needs
+refused-at-requires-2 : tie.Need-refused-at-requires-2 Inv-loop μ-loop
+refused-at-requires-2 c κs = search needs
 
 returns-2 : tie.Need-returns-2 Inv-loop μ-loop
 returns-2 c =
-    let l = c .before .before .before .before .before in
-    let a = l .before .before .before .before .before .args in
-    let t = lent (a .n) (a .start) (a .from .now) (a .to .now) (a .marks .now) in
-    sym (decided t (a .used) (l .loop .e) (omega arith) (l .loop .inv .1 .1) (five-arrives t (a .used) (l .loop .e) (t .edges - suc (l .loop .e)) (omega arith) (omega arith)))
+    let at-loop = c .before .before .before .before .before .before in
+    c .refused-at2 .ensures ∙ five-arrives _ _ _ _ (at-loop .loop .inv) (omega arith) (omega arith) (omega arith)
 
-cast-t18 : tie.Need-cast-t18 Inv-loop μ-loop
-cast-t18 c = search needs
+refused-at-requires-3 : tie.Need-refused-at-requires-3 Inv-loop μ-loop
+refused-at-requires-3 c κs = search needs
 
 returns-3 : tie.Need-returns-3 Inv-loop μ-loop
 returns-3 c =
-    let l = c .before .before .before .before .before .before in
-    let a = l .before .before .before .before .before .args in
-    let t = lent (a .n) (a .start) (a .from .now) (a .to .now) (a .marks .now) in
-    sym (decided t (a .used) (l .loop .e) (omega arith) (l .loop .inv .1 .1) (six t (a .used) (l .loop .e) (t .edges - suc (l .loop .e)) (omega arith) (omega arith) (omega arith)))
+    let at-loop = c .before .before .before .before .before .before .before in
+    c .refused-at3 .ensures ∙ six _ _ _ _ (at-loop .loop .inv) (omega arith) (omega arith) (omega arith) (omega arith)
 
 mul-covers : tie.Need-mul-covers Inv-loop μ-loop
 mul-covers c = search needs
@@ -79,33 +67,16 @@ shared-slice-read-covers c = search needs
 covers-requires : tie.Need-covers-requires Inv-loop μ-loop
 covers-requires c κs = search needs
 
-cast-t21 : tie.Need-cast-t21 Inv-loop μ-loop
-cast-t21 c = search needs
-
--- the first marks do not cover the edge's: it bears one that is not used
-large : (c : tie.Then4 Inv-loop μ-loop)
-    → 2 ^ (c .before .before .before .before .before .before .before .before .before .before .before .before .before .before .args .used)
-    ≤ getD (c .before .before .before .before .before .before .before .before .before .before .before .before .before .before .args .marks .now) (c .before .before .before .before .before .before .before .before .before .loop .e) 0
-large c =
-    let l = c .before .before .before .before .before .before .before .before .before in
-    let a = l .before .before .before .before .before .args in
-    let x = getD (a .marks .now) (l .loop .e) 0 in
-    uncovered (a .used) x (omega (arith, c .before .before .shared-slice-known6 .given (l .loop .e))) (rw (l .before .first-marks .ensures) at (c .before .covers .ensures)) (c .if4 .taken)
-
-little : (c : tie.Else4 Inv-loop μ-loop)
-    → getD (c .before .before .before .before .before .before .before .before .before .before .before .before .before .before .args .marks .now) (c .before .before .before .before .before .before .before .before .before .loop .e) 0
-    < 2 ^ (c .before .before .before .before .before .before .before .before .before .before .before .before .before .before .args .used)
-little c =
-    let l = c .before .before .before .before .before .before .before .before .before in
-    let a = l .before .before .before .before .before .args in
-    covered (a .used) (getD (a .marks .now) (l .loop .e) 0) (rw (l .before .first-marks .ensures) at (c .before .covers .ensures)) (c .if4 .left)
+refused-at-requires-4 : tie.Need-refused-at-requires-4 Inv-loop μ-loop
+refused-at-requires-4 c κs = search needs
 
 returns-4 : tie.Need-returns-4 Inv-loop μ-loop
 returns-4 c =
-    let l = c .before .before .before .before .before .before .before .before .before in
-    let a = l .before .before .before .before .before .args in
-    let t = lent (a .n) (a .start) (a .from .now) (a .to .now) (a .marks .now) in
-    sym (decided t (a .used) (l .loop .e) (omega arith) (l .loop .inv .1 .1) (seven t (a .used) (l .loop .e) (t .edges - suc (l .loop .e)) (omega arith) (omega arith) (omega arith) (large c)))
+    let after-covers = c .before .before in
+    let at-loop = after-covers .before .before .before .before .before .before .before .before in
+    let word = after-covers .before .shared-slice-known6 .given (at-loop .loop .e) in
+    let outside = uncovered _ _ (omega (arith, word)) (rw (at-loop .before .first-marks .ensures) at (after-covers .covers .ensures)) (c .before .if4 .taken) in
+    c .refused-at4 .ensures ∙ seven _ _ _ _ (at-loop .loop .inv) (omega arith) (omega arith) (omega arith) (omega arith) outside
 
 add-e : tie.Need-add-e Inv-loop μ-loop
 add-e c = search needs
@@ -115,26 +86,13 @@ loop-less c = search needs
 
 loop-again : tie.Need-loop-again Inv-loop μ-loop
 loop-again c =
-    let l = c .before .before .before .before .before .before .before .before .before in
-    let a = l .before .before .before .before .before .args in
-    let t = lent (a .n) (a .start) (a .from .now) (a .to .now) (a .marks .now) in
-    let e = l .loop .e in
-    let n : length (a .from .now) - suc e ≡ length (a .from .now) - (e + 1) = omega arith in (
-      omega arith,
-      (
-        sym (ap (faults.before (a .from .now)) (add-one e)),
-        decided t (a .used) e (omega arith) (l .loop .inv .1 .1) (faultless t (a .used) e (t .edges - suc e) (omega arith) (omega arith) (omega arith) (little c))
-            ∙ ap (λ (k : ℕ). edgeRefusal t (a .used) k (length (a .from .now) - suc e)) (sym (add-one e)) ∙ ap (edgeRefusal t (a .used) (e + 1)) n,
-      ),
-    )
+    let after-covers = c .before in
+    let at-loop = after-covers .before .before .before .before .before .before .before .before in
+    let inside = covered _ _ (rw (at-loop .before .first-marks .ensures) at (after-covers .covers .ensures)) (c .if4 .left) in
+    one-passed _ _ _ _ (at-loop .loop .inv) (omega arith) (omega arith) (omega arith) (omega arith) inside
 
 returns-5 : tie.Need-returns-5 Inv-loop μ-loop
-returns-5 c =
-    let l = c .before in
-    let a = l .before .before .before .before .before .args in
-    let t = lent (a .n) (a .start) (a .from .now) (a .to .now) (a .marks .now) in
-    let k : length (a .from .now) - l .loop .e ≡ 0 = omega arith in
-    sym (l .loop .inv .1 .1 ∙ ap (edgeRefusal t (a .used) (l .loop .e)) k)
+returns-5 c = all-passed _ _ _ _ (c .before .loop .inv) (c .loop-test .left)
 
 pub first-fault-spec : {M : Type 1} → statement M
 first-fault-spec =
@@ -146,18 +104,18 @@ first-fault-spec =
     loop-holds
     mul-leaves
     shared-slice-read-leaves
-    cast-t15
+    refused-at-requires
     returns
     mul-if2
     shared-slice-read-if2
-    cast-t17
+    refused-at-requires-2
     returns-2
-    cast-t18
+    refused-at-requires-3
     returns-3
     mul-covers
     shared-slice-read-covers
     covers-requires
-    cast-t21
+    refused-at-requires-4
     returns-4
     add-e
     loop-less

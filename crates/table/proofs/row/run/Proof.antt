@@ -29,9 +29,10 @@ shared-slice-read-if1 c = search needs
 
 returns : tie.Need-returns Inv-loop μ-loop
 returns c =
-    let p = c .before .before .before in
-    let a = p .before .args in
-    sym (p .loop .inv .1 ∙ ap (λ (k : ℕ). p .loop .i + k) (run-none (a .state) (a .part .now) (p .loop .i) (c .before .before .loop-test .taken) (c .if1 .taken)) ∙ add-zero (p .loop .i))
+    let at-loop = c .before .before .before in
+    let a = at-loop .before .args in
+    let none = run-none (a .state) (a .part .now) (at-loop .loop .i) (c .before .before .loop-test .taken) (c .if1 .taken) in
+    sym (at-loop .loop .inv .1 ∙ ap (λ (k : ℕ). at-loop .loop .i + k) none ∙ add-zero (at-loop .loop .i))
 
 add-i : tie.Need-add-i Inv-loop μ-loop
 add-i c = search needs
@@ -41,17 +42,17 @@ loop-less c = search needs
 
 loop-again : tie.Need-loop-again Inv-loop μ-loop
 loop-again c =
-    let p = c .before .before .before in
-    let a = p .before .args in
-    let more = run-more (a .state) (a .part .now) (p .loop .i) (c .before .before .loop-test .taken) (c .if1 .left) in
-    let step = ap (λ (k : ℕ). run (a .state) (drop k (a .part .now))) (add-one (p .loop .i)) in
-    (omega arith, omega (arith, more, step, p .loop .inv .1))
+    let at-loop = c .before .before .before in
+    let a = at-loop .before .args in
+    let more = run-more (a .state) (a .part .now) (at-loop .loop .i) (c .before .before .loop-test .taken) (c .if1 .left) in
+    let step = ap (λ (k : ℕ). run (a .state) (drop k (a .part .now))) (add-one (at-loop .loop .i)) in
+    (omega arith, omega (arith, more, step, at-loop .loop .inv .1))
 
 returns-2 : tie.Need-returns-2 Inv-loop μ-loop
 returns-2 c =
-    let p = c .before in
-    let a = p .before .args in
-    omega (arith, run-over (a .state) (a .part .now) (p .loop .i) (c .loop-test .left), p .loop .inv .1)
+    let at-loop = c .before in
+    let a = at-loop .before .args in
+    omega (arith, run-over (a .state) (a .part .now) (at-loop .loop .i) (c .loop-test .left), at-loop .loop .inv .1)
 
 pub run-spec : {M : Type 1} → statement M
 run-spec =

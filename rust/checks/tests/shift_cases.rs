@@ -1,4 +1,4 @@
-//! Document 01's fourteen cases, its edges of the limits and the large tables of the issue, through the linked judge: stored
+//! Document 01's fourteen cases, its edges of the limits and large tables, through the linked judge: stored
 //! answers, each also put through the harness.
 
 use checks::acceptance;

@@ -8,6 +8,7 @@ use crate::job_text;
 use crate::judges::{Judge, Plain};
 use crate::oracle::{self, Expected};
 use crate::random::Random;
+use crate::refusal;
 use crate::shrink;
 use mukhadero::Condition;
 use std::collections::BTreeMap;
@@ -128,7 +129,7 @@ fn any_case(random: &mut Random) -> Case {
 /// What a judge must say, and who says so: the definition where it is cheap enough, then reachability, then the plain judge (which
 /// is itself held against the others wherever they are asked).
 fn expected(case: &Case, random: &mut Random) -> (Expected, &'static str) {
-    if crate::acceptance::judge_refusal(case).is_some() {
+    if refusal::of_judge(case).is_some() {
         return (oracle::by_marks_collected(case), "document 01's rows");
     }
     let (n, m) = (case.states as u64, case.edges() as u64);

@@ -149,6 +149,19 @@ pub fn streett_shrinking(states: u32, edges: u32, pairs: u32, accepted: bool, ra
     Case::new("shrinking Streett", states, 0, list, Condition::Streett { pairs })
 }
 
+/// A cycle through all states, with a loop at each. The closing edge is the one with pair 1's left mark, and the only one with pair
+/// 0's right mark; the loops bear pair 0's left mark. So erasing the closing edge leaves as many parts as there are states, and
+/// each is bad; but one loop bears nothing if `accepted`.
+pub fn lone_loops(states: u32, accepted: bool, random: &mut Random) -> Case {
+    let mut list: Vec<Edge> = (0..states).map(|s| (s, s, 1)).collect();
+    if accepted {
+        list[random.below(states) as usize].2 = 0;
+    }
+    list.extend((1..states).map(|s| (s - 1, s, 0)));
+    list.push((states - 1, 0, 0b110));
+    Case::new("lone loops", states, random.below(states), list, Condition::Streett { pairs: 2 })
+}
+
 /// Eight pairs with three needs each, and every cycle bears the forbidden marks of the first seven; the last pair is met if
 /// `accepted`, else one of its needs is missing.
 pub fn rabin_last(states: u32, edges: u32, accepted: bool, random: &mut Random) -> Case {
@@ -225,7 +238,7 @@ pub fn any_structured(most_states: u32, most_marks: u32, random: &mut Random) ->
     let edges = random.within(0, 4 * states);
     let coin = random.chance(50);
     let k = random.within(1, most_marks);
-    match random.below(11) {
+    match random.below(12) {
         0 => long_cycle(states, edges, k, coin, random),
         1 => {
             let condition = any_condition(most_marks, random);
@@ -241,7 +254,8 @@ pub fn any_structured(most_states: u32, most_marks: u32, random: &mut Random) ->
             lone_states(states, edges, condition, random)
         }
         8 => unreachable_accepted(states, edges, k, random),
-        9 => {
+        9 => lone_loops(states, coin, random),
+        10 => {
             let condition = any_condition(most_marks, random);
             let percent = random.pick(&[2, 10, 30]);
             dense(states.min(180), condition, percent, random)

@@ -6,6 +6,7 @@ use crate::judges::Judge;
 use crate::lent::{JudgeLoan, Lent, TranslationLoan};
 use crate::oracle::{self, Expected};
 use crate::random::Random;
+use crate::refusal;
 use mukhadero::ffi::{self, Answer};
 use mukhadero::Condition;
 use std::fmt;
@@ -166,7 +167,7 @@ pub fn check_one_mark(judge: &dyn Judge, case: &Case, k: u32, outputs: [usize; 3
     let made = judge.one_mark(case, k, &mut loan);
     let written = [("out_from", &loan.out_from), ("out_to", &loan.out_to), ("out_marks", &loan.out_marks)];
     check_lent(&[("from", &loan.from), ("to", &loan.to), ("marks", &loan.marks)], &written)?;
-    if let Some((number, place)) = acceptance::translation_refusal(case, k, outputs) {
+    if let Some((number, place)) = refusal::of_translation(case, k, outputs) {
         let against = || format!("{made:?}, expected number {number}, place {place}");
         demand(made.number != 0, Promise::Verdict, against)?;
         demand(made.number == number, Promise::Number, against)?;

@@ -14,17 +14,18 @@ pub struct Lent {
 
 impl Lent {
     /// A buffer that holds these cells, between guards of junk.
-    fn holding(contents: impl Iterator<Item = u32>, random: &mut Random) -> Self {
-        let mut cells: Vec<u32> = (0..GUARD).map(|_| random.junk()).collect();
-        cells.extend(contents);
+    fn holding(contents: &[u32], random: &mut Random) -> Self {
+        let mut cells = Vec::with_capacity(GUARD + contents.len() + GUARD);
+        cells.extend((0..GUARD).map(|_| random.junk()));
+        cells.extend_from_slice(contents);
         cells.extend((0..GUARD).map(|_| random.junk()));
         Lent { before: cells.clone(), cells }
     }
 
     /// A buffer of so many cells of junk: a judge may not count on what it is lent.
     fn junk(length: usize, random: &mut Random) -> Self {
-        let contents: Vec<u32> = (0..length).map(|_| random.junk()).collect();
-        Self::holding(contents.into_iter(), random)
+        let cells: Vec<u32> = (0..GUARD + length + GUARD).map(|_| random.junk()).collect();
+        Lent { before: cells.clone(), cells }
     }
 
     /// The part that is lent.
@@ -67,13 +68,13 @@ pub struct JudgeLoan {
 impl JudgeLoan {
     pub fn new(case: &Case, random: &mut Random) -> Self {
         let needs = match case.condition {
-            Condition::Rabin { needs, .. } => Lent::holding(needs.into_iter(), random),
+            Condition::Rabin { ref needs, .. } => Lent::holding(needs, random),
             _ => Lent::junk(8, random),
         };
         JudgeLoan {
-            from: Lent::holding(case.from.iter().copied(), random),
-            to: Lent::holding(case.to.iter().copied(), random),
-            marks: Lent::holding(case.marks.iter().copied(), random),
+            from: Lent::holding(&case.from, random),
+            to: Lent::holding(&case.to, random),
+            marks: Lent::holding(&case.marks, random),
             needs,
             room: Lent::junk(case.room, random),
             scratch: Lent::junk(case.scratch, random),
@@ -94,9 +95,9 @@ pub struct TranslationLoan {
 impl TranslationLoan {
     pub fn new(case: &Case, outputs: [usize; 3], random: &mut Random) -> Self {
         TranslationLoan {
-            from: Lent::holding(case.from.iter().copied(), random),
-            to: Lent::holding(case.to.iter().copied(), random),
-            marks: Lent::holding(case.marks.iter().copied(), random),
+            from: Lent::holding(&case.from, random),
+            to: Lent::holding(&case.to, random),
+            marks: Lent::holding(&case.marks, random),
             out_from: Lent::junk(outputs[0], random),
             out_to: Lent::junk(outputs[1], random),
             out_marks: Lent::junk(outputs[2], random),

@@ -42,6 +42,7 @@ impl Random {
 
     /// A word that is not 0.
     pub fn junk(&mut self) -> u32 {
-        self.word() as u32 | 1 << self.below(32)
+        let word = self.word();
+        word as u32 | 1 << (word >> 59)
     }
 }

@@ -1,11 +1,11 @@
-//! Document 01's fourteen cases, its edges of the limits and the large tables of the issue, through the linked judge: stored
-//! answers, each also put through the harness.
+//! Document 01's fourteen cases, its edges of the limits and large tables, through the linked judge
+//! and the plain one: stored answers, each also put through the harness.
 
 use checks::acceptance;
 use checks::case::{Case, Edge};
 use checks::families;
 use checks::harness;
-use checks::judges::Archive;
+use checks::judges::{Archive, Judge, Plain};
 use checks::oracle::{self, Expected};
 use checks::random::Random;
 use mukhadero::Condition::{self, Buchi, Rabin, Streett};
@@ -17,8 +17,13 @@ fn refused(number: u32, place: u32) -> Expected {
     Expected::Refused { number, place }
 }
 
+/// Both judges must give the answer; the linked one's comes back.
 fn check(case: &Case, expected: Expected) -> mukhadero::ffi::Answer {
-    harness::check_judge(&Archive, case, expected, &mut Random::new(5)).unwrap_or_else(|fault| panic!("{fault}\n{case:?}"))
+    let judged = |judge: &dyn Judge| {
+        harness::check_judge(judge, case, expected, &mut Random::new(5)).unwrap_or_else(|fault| panic!("{fault}\n{case:?}"))
+    };
+    judged(&Plain);
+    judged(&Archive)
 }
 
 /// A case from edges "from>to{marks}"; n is one above the largest state named.
@@ -142,6 +147,8 @@ fn large_tables() {
     check(&families::streett_deep(4096, 32768, 16, false, random), EMPTY);
     check(&families::streett_shrinking(4096, 32768, 16, true, random), RUN);
     check(&families::streett_shrinking(4096, 32768, 16, false, random), EMPTY);
+    check(&families::lone_loops(4096, true, random), RUN);
+    check(&families::lone_loops(4096, false, random), EMPTY);
     check(&families::rabin_last(4096, 32768, true, random), Expected::Run { pair: 7 });
     check(&families::rabin_last(4096, 32768, false, random), EMPTY);
     check(&families::small_parts(4096, 32768, 5, true, random), RUN);

@@ -5,6 +5,7 @@ use checks::damage;
 use checks::families;
 use checks::oracle::{self, Expected};
 use checks::random::Random;
+use checks::refusal;
 use mukhadero::{Condition, Judge, Lasso, Verdict};
 
 #[test]
@@ -18,7 +19,7 @@ fn a_judge_with_room_of_its_own_says_what_the_oracle_says() {
             let row = random.within(1, 7);
             damage::damage(&mut case, row, &mut random);
         }
-        if acceptance::table_refusal(&case, &case.condition).is_none() {
+        if refusal::of_table(&case, &case.condition).is_none() {
             case.room = acceptance::room_needed(case.states, &case.condition) as usize;
             case.scratch = acceptance::scratch_needed(case.states, case.edges()) as usize;
         }

@@ -1,20 +1,23 @@
-//! The judge and the one-mark translation in plain Rust, unproved: the same algorithm as the proved judge, with the same lent room
-//! and scratch and the same promises about them. It is what the benchmark compares with, and the second judge of the tests where
-//! tables are too large for the oracle.
+//! The judge and the one-mark translation in plain Rust, unproved and as fast as we can make them: the same contract as the proved
+//! judge, with the same lent room and scratch and the same promises about them. It is what the benchmark compares with, and the second
+//! judge of the tests where tables are too large for the oracle.
 //!
-//! A search from the start finds what can be reached; a path-based depth-first search divides it into parts; a part is judged by the
-//! marks on its inner edges. For Streett a bad part is divided again without the left marks of its bad pairs: what is erased is a set
-//! of marks that goes down with the part, so no edge is marked as erased. The lasso is made of breadth-first legs.
+//! The edges are checked by folds. One depth-first pass from the start divides what can be reached into parts and joins the marks of
+//! each part's inner edges on the way; a part is judged by this union. For Streett a bad part is divided again without the left marks
+//! of its bad pairs; for Rabin the first division serves all pairs, and for each pair only parts with all its needed marks are divided
+//! again, without its forbidden mark. The lasso is made of breadth-first legs.
 
+mod find;
 mod lasso;
 mod one_mark;
 mod parts;
 mod refusal;
+mod work;
 
 pub use one_mark::{one_mark, Translated};
 pub use refusal::{room_needed, scratch_needed};
 
-use parts::Work;
+use work::Work;
 
 /// Document 01's three kinds of condition, each with its number; Rabin's needs stand beside it.
 #[derive(Clone, Copy, Debug)]
@@ -48,12 +51,11 @@ pub fn judge(table: &Table, condition: &Condition, room: &mut [u32], scratch: &m
         return Verdict::Refused { number, place };
     }
     let mut work = Work::new(table, scratch);
-    let reached = work.reach(table.start);
-    let verdict = match find(&mut work, reached, condition) {
-        Some((found, pair)) => {
-            let (prefix, cycle) = lasso::write(&mut work, &found, room);
+    let verdict = match work.find(table.start, condition) {
+        Some(found) => {
+            let (prefix, cycle) = lasso::write(work, table.start, &found, room);
             room[prefix + cycle..].fill(0);
-            Verdict::Run { prefix: prefix as u32, cycle: cycle as u32, pair }
+            Verdict::Run { prefix: prefix as u32, cycle: cycle as u32, pair: found.pair }
         }
         None => {
             room.fill(0);
@@ -62,24 +64,4 @@ pub fn judge(table: &Table, condition: &Condition, room: &mut [u32], scratch: &m
     };
     scratch.fill(0);
     verdict
-}
-
-/// The first part that holds an accepted lasso, and for Rabin the pair (else 0).
-fn find(work: &mut Work, reached: usize, condition: &Condition) -> Option<(parts::Found, u32)> {
-    match *condition {
-        Condition::Buchi(k) => work.find_goal(reached, 0, refusal::first_marks(k)).map(|found| (found, 0)),
-        Condition::Streett(_) => work.find_streett(0, reached, 0).map(|found| (found, 0)),
-        Condition::Rabin(p, needs) => {
-            let mut forbidden = 0;
-            for pair in 0..p {
-                let need = needs[pair as usize];
-                let want = refusal::first_marks(forbidden + 1 + need) & !refusal::first_marks(forbidden + 1);
-                if let Some(found) = work.find_goal(reached, 1 << forbidden, want) {
-                    return Some((found, pair));
-                }
-                forbidden += 1 + need;
-            }
-            None
-        }
-    }
 }

@@ -50,6 +50,38 @@ pub fn scratch_needed(states: u32, edges: usize) -> usize {
     8 * states as usize + 4 * edges + 64
 }
 
+/// Is there no fault in any edge? Two numbers are folded over the tables, so that no edge costs a branch: a word whose top bit tells
+/// an end that is not below n or a from that falls, and the union of the marks. (For x below 2^31, `n - 1 - x` has its top bit
+/// exactly if x is not below n; a larger x has it itself. Of two froms below 2^31 the difference has it exactly if they fall.)
+fn edges_are_right(table: &Table, used: u32) -> bool {
+    const TOP: u32 = 1 << 31;
+    let last = table.states - 1;
+    let beyond = |ends: &[u32]| ends.iter().fold(0, |top, &end| top | end | last.wrapping_sub(end));
+    let falls = table.from.iter().zip(table.from.iter().skip(1)).fold(0, |top, (&before, &from)| top | from.wrapping_sub(before));
+    let borne = table.marks.iter().fold(0, |union, &marks| union | marks);
+    (beyond(table.from) | beyond(table.to) | falls) & TOP == 0 && borne & !used == 0
+}
+
+/// The first faulty edge, with rows 5, 6 and 7 in this order within it.
+fn first_fault(table: &Table, used: u32) -> Option<(u32, u32)> {
+    let n = table.states;
+    let mut before = 0;
+    for e in 0..table.from.len() {
+        let from = table.from[e];
+        if from >= n || table.to[e] >= n {
+            return Some((5, e as u32));
+        }
+        if from < before {
+            return Some((6, e as u32));
+        }
+        if table.marks[e] & !used != 0 {
+            return Some((7, e as u32));
+        }
+        before = from;
+    }
+    None
+}
+
 /// Rows 1 to 7: number and place of the first cause.
 pub fn of_table(table: &Table, condition: &Condition) -> Option<(u32, u32)> {
     let n = table.states;
@@ -66,21 +98,11 @@ pub fn of_table(table: &Table, condition: &Condition) -> Option<(u32, u32)> {
     let Some(used) = used_marks(condition) else {
         return Some((4, 0));
     };
-    let mut before = 0;
-    for e in 0..m {
-        let from = table.from[e];
-        if from >= n || table.to[e] >= n {
-            return Some((5, e as u32));
-        }
-        if from < before {
-            return Some((6, e as u32));
-        }
-        if table.marks[e] & !used != 0 {
-            return Some((7, e as u32));
-        }
-        before = from;
+    if edges_are_right(table, used) {
+        None
+    } else {
+        first_fault(table, used)
     }
-    None
 }
 
 /// Rows 1 to 9.

@@ -1,11 +1,12 @@
 //! The benchmark: the linked judge beside the plain one, in one run, on families of tables up to the limits. Prints a Markdown
-//! table for docs/BENCH.md. `bench` alone measures everything; `bench quick` only the smallest size, to see that it works.
+//! table, of which `tools/bench` makes docs/bench-table.md. `bench` alone measures everything; `bench quick` only the smallest size,
+//! to see that it works.
 //!
 //! A row's tables have the same number of edges together, whatever their size, and a sample is one pass over all of them: so small
 //! tables gain nothing from a processor that has learnt a single one by heart, and growth can be read off. The first passes warm
 //! caches and are not counted. Time is the thread's processor time. The two judges take turns, sample by sample, so that noise of
-//! the machine meets both; the figures are medians over the samples. Room and scratch are exactly as long as needed; each judge leaves them in order itself, and that is part
-//! of its time.
+//! the machine meets both; the figures are medians over the samples. Room and scratch are exactly as long as needed; each judge
+//! leaves them in order itself, and that is part of its time.
 
 use checks::case::Case;
 use checks::families;

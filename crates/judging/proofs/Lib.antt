@@ -1,4 +1,5 @@
 pub mod Carry
 pub mod Counting
 pub mod Fields
+pub mod Sizes
 pub mod Walks

@@ -16,3 +16,6 @@ pub mod Trail
 -- Tied, Tying: the lasso, and what the functions that write it ask and promise.
 pub mod Tied
 pub mod Tying
+-- Judgement, Hunt: the judgement of a part, the hunt for one that holds an accepted lasso.
+pub mod Judgement
+pub mod Hunt

@@ -1,0 +1,2 @@
+-- Why the rank is right.
+pub mod Largest

@@ -1,0 +1,36 @@
+// r of document 01: how many marks a cycle may have to be led past.
+ghost use mathlib.Core.Path.{_≡_};
+ghost use Prim.Native.Nat.{max};
+ghost use Rattle.judging.specs.Answer.{largest, rank};
+use table::Acceptance;
+
+// The larger of two needs.
+fn larger(a: u32, b: u32) -> u32
+    ensures { λ r. ⌜ r ≡ max a b ⌝ }
+{
+    if a < b { b } else { a }
+}
+
+// The largest of the eight needs.
+fn largest_need(needs: [u32; 8]) -> u32
+    ensures { λ r. ⌜ r ≡ largest needs ⌝ }
+{
+    let mut most: u32 = 0;
+    let mut i: usize = 0;
+    while i < 8 {
+        most = larger(most, needs[i]);
+        i += 1;
+    }
+    most
+}
+
+// k for Büchi, p for Streett, the largest need for Rabin.
+pub(crate) fn rank_of(condition: Acceptance, needs: [u32; 8]) -> u32
+    ensures { λ r. ⌜ r ≡ rank condition needs ⌝ }
+{
+    match condition {
+        Acceptance::Buchi(k) => k,
+        Acceptance::Streett(p) => p,
+        Acceptance::Rabin(_p) => largest_need(needs),
+    }
+}

@@ -34,7 +34,8 @@ loop-again : tie.Need-loop-again Inv-loop μ-loop
 loop-again c =
     let l = c .before in
     let s = l .before .args .cells .now in
-    (omega arith, (ap (λ (x : List ℕ). set x (l .loop .i) 0) (l .loop .inv .1 .0) ∙ fill-more (l .loop .i) 0 s (omega arith), length-set (l .loop .cells) (l .loop .i) 0 ∙ l .loop .inv .1 .1))
+    let filled = ap (λ (x : List ℕ). set x (l .loop .i) 0) (l .loop .inv .1 .0) ∙ fill-more (l .loop .i) 0 s (omega arith) in
+    (omega arith, (filled, length-set (l .loop .cells) (l .loop .i) 0 ∙ l .loop .inv .1 .1))
 
 same-length : tie.Need-same-length Inv-loop μ-loop
 same-length c = c .before .loop .inv .1 .1
@@ -44,7 +45,8 @@ returns c =
     let l = c .before in
     let s = l .before .args .cells .now in
     let e : l .loop .i ≡ length s = omega arith in
-    l .loop .inv .1 .0 ∙ ap (λ (k : ℕ). replicate k 0 ++ drop k s) e ∙ ap (λ (x : List ℕ). replicate (length s) 0 ++ x) (drop-of-length-le s {i = length s} (omega arith)) ∙ append-nil (replicate (length s) 0)
+    l .loop .inv .1 .0 ∙ ap (λ (k : ℕ). replicate k 0 ++ drop k s) e
+    ∙ ap (λ (x : List ℕ). replicate (length s) 0 ++ x) (drop-of-length-le s {i = length s} (omega arith)) ∙ append-nil (replicate (length s) 0)
 
 pub clear-spec : {M : Type 1} → statement M
 clear-spec =

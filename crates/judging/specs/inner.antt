@@ -9,10 +9,6 @@ pub mod Parts
 pub mod Cutting
 pub mod Boring
 pub mod Steps
--- Tied, Tying, Searching: the lasso.
-pub mod Tied
-pub mod Tying
-pub mod Searching
 -- Judgement, Hunt: the judgement of a part, the hunt for one that holds an accepted lasso.
 pub mod Judgement
 pub mod Hunt

@@ -1,9 +1,8 @@
--- Carry, Counting, Fields, Sizes, Walks: what several modules need. Deciding: why a verdict is right. Answering: the answer by its first cause.
+-- Carry, Counting, Fields, Walks: what several modules need. Deciding: why a verdict is right. Answering: the answer by its first cause.
 -- Unique, Demand: what follows from the judge's promise alone.
 pub mod Carry
 pub mod Counting
 pub mod Fields
-pub mod Sizes
 pub mod Walks
 pub mod Deciding
 pub mod Answering

@@ -38,7 +38,8 @@ loop-again : tie.Need-loop-again Inv-loop μ-loop
 loop-again c =
     let l = c .before .before in
     let eight : length (l .before .args .t1) ≡ 8 = search trivial in
-    (omega arith, largest-more (l .before .args .t1) (l .loop .i) (l .loop .most) (omega arith) (l .loop .inv .1) ∙ ap (λ (k : ℕ). max k (largest (drop (l .loop .i + 1) (l .before .args .t1)))) (sym (c .larger .ensures)))
+    let more = largest-more (l .before .args .t1) (l .loop .i) (l .loop .most) (omega arith) (l .loop .inv .1) in
+    (omega arith, more ∙ ap (λ (k : ℕ). max k (largest (drop (l .loop .i + 1) (l .before .args .t1)))) (sym (c .larger .ensures)))
 
 returns : tie.Need-returns Inv-loop μ-loop
 returns c =

@@ -14,7 +14,8 @@
  * Threads: calls may run at the same time. Tables and needs are only read and may be shared; room, scratch and outputs may not.
  * Platform: x86-64 Linux, the C calling convention there; of the C library only memset is used.
  *
- * Link with target/staticlib/libmukhadero.a, made by `rt staticlib mukhadero`; mukhadero.pc in the root of the repository says so to pkg-config.
+ * Link with target/staticlib/libmukhadero.a, made by `rt staticlib mukhadero`. mukhadero.pc, in the root of the repository, is for
+ * pkg-config.
  */
 #ifndef MUKHADERO_H
 #define MUKHADERO_H
@@ -75,8 +76,8 @@ enum {
 };
 
 /*
- * Lasso room that is never too short for n states, in cells of 32 bits; r is k for Buchi, p for Streett, the largest need for Rabin. 0 if n is 0, which is
- * refused anyway. Like the next, for numbers within the limits above; n may be evaluated twice.
+ * Lasso room that is never too short for n states, in cells of 32 bits; r is k for Buchi, p for Streett, the largest need for Rabin.
+ * 0 if n is 0, which is refused anyway. Like the next, for numbers within the limits above; n may be evaluated twice.
  */
 #define MUKHADERO_ROOM_CELLS(r, n) ((n) == 0 ? MUKHADERO_SIZE(0) : (MUKHADERO_SIZE(r) + 2) * MUKHADERO_SIZE(n) - 1)
 /* Scratch that is never too short for n states and m edges, in words of 32 bits. */

@@ -5,9 +5,10 @@
 //! accepted. [`judge`] answers with an accepted lasso, with "empty" if there is none, or with a numbered [`Refusal`].
 //!
 //! The judge itself is a proved library, linked as a C archive: a false "run" and a false "empty" are both ruled out by proof, for
-//! every input. This crate is not proved, and only turns slices into pointers and numbers into enums. It allocates only in [`Judge`],
-//! which keeps room and scratch for those who do not want to lend their own. Calls may run at the same time in several threads; a
-//! call takes less than 64 KB of stack. The archive is for x86-64 Linux. The rules, complete, are in docs/RULES.md of the repository.
+//! every input. This crate is not proved; it only turns slices into pointers and numbers into enums. It allocates only in
+//! [`Judge`], which keeps room and scratch for those who do not want to lend their own. Calls may run at the same time in several
+//! threads; a call takes less than 64 KB of stack. The archive is for x86-64 Linux. docs/RULES.md of the repository has the rules,
+//! complete.
 //!
 //! # Example
 //!
@@ -116,7 +117,8 @@ impl Condition {
     ///
     /// # Errors
     ///
-    /// [`Cause::Condition`] for more than 8 needs, as the judge would say. Needs that come to more than 32 marks are left to the judge.
+    /// [`Cause::Condition`] for more than 8 needs, as the judge would say. Needs that come to more than 32 marks are left to the
+    /// judge.
     ///
     /// ```
     /// use mukhadero::{Cause, Condition};

@@ -2,7 +2,8 @@
 
 use std::fmt;
 
-/// Why a table was refused. The numbers are those of docs/RULES.md, "What comes back"; which of several causes is told is said there too.
+/// Why a table was refused. The numbers are those of docs/RULES.md, "What comes back", which also says which of several causes is
+/// told.
 #[derive(Clone, Copy, Debug, PartialEq, Eq, Hash)]
 #[non_exhaustive]
 pub enum Cause {
@@ -12,21 +13,24 @@ pub enum Cause {
     Edges,
     /// Number 3: the start is not below the number of states.
     Start,
-    /// Number 4: more than 32 Büchi marks, 16 Streett pairs or 8 Rabin pairs; a Rabin need from `pairs` on that is not 0; or more than 32 Rabin marks in
-    /// all, counting one forbidden mark and the needed ones of each pair.
+    /// Number 4: more than 32 Büchi marks, 16 Streett pairs or 8 Rabin pairs; a Rabin need from `pairs` on that is not 0; or more
+    /// than 32 Rabin marks in all, counting one forbidden mark and the needed ones of each pair.
     Condition,
     /// Number 5: an edge leaves or arrives at a number that is not below the number of states. The place is the first such edge.
     EdgeEnd,
-    /// Number 6: an edge leaves a lower state than the edge before it does: the edges must be sorted by `from`. The place is the edge.
+    /// Number 6: an edge leaves a lower state than the edge before it does: the edges must be sorted by `from`. The place is the
+    /// edge.
     EdgeOrder,
-    /// Number 7: an edge bears a mark that the condition does not use: Büchi uses as many as it has marks, Streett two a pair, Rabin one and its need a pair.
-    /// The place is the edge.
+    /// Number 7: an edge bears a mark that the condition does not use: Büchi uses as many as it has marks, Streett two a pair, Rabin
+    /// one and its need a pair. The place is the edge.
     EdgeMark,
     /// Number 8: the lasso room is shorter than [`room_needed`](crate::room_needed) says. Never told by [`Judge`](crate::Judge).
     Room,
-    /// Number 9: the scratch is shorter than [`scratch_needed`](crate::scratch_needed) says. Never told by [`Judge`](crate::Judge).
+    /// Number 9: the scratch is shorter than [`scratch_needed`](crate::scratch_needed) says. Never told by
+    /// [`Judge`](crate::Judge).
     Scratch,
-    /// Number 10, translation only: the translated table would have more than 4,096 states or 32,768 edges, max(k, 1) times those of the table.
+    /// Number 10, translation only: the translated table, with max(k, 1) times the states and edges, would have more than 4,096
+    /// states or 32,768 edges.
     TableSize,
     /// Number 11, translation only: an output is shorter than the translated edge count, max(k, 1) times the table's.
     Output,

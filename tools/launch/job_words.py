@@ -5,10 +5,12 @@ What the words rest on is the printed answer; the job text is only looked at to 
 
 import re
 
+from manners import EMPTY, REFUSED, RUN
+
 LONGEST = 12_288
 LIMITS = {"states": "256 states", "edges": "512 edges"}
 COUNTS = {"buchi": "32 marks", "streett": "16 pairs", "rabin": "8 pairs"}
-STATUS = {b"empty": 0, b"run": 1, b"refused": 2}
+STATUS = {b"empty": EMPTY, b"run": RUN, b"refused": REFUSED}
 
 NUMBERS = rb"(-|\d+(?:,\d+)*)"
 ANSWER = re.compile(rb"verdict=(run|empty|refused)\ncode=(\d+)\nplace=(\d+)\npair=(-|\d+)\nprefix=" + NUMBERS + rb"\ncycle=" + NUMBERS + rb"\n")

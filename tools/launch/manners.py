@@ -97,7 +97,7 @@ def crates_of(program):
 
 def files_under(folder):
     for entry in sorted(os.scandir(folder), key=lambda entry: entry.name):
-        if entry.is_dir():
+        if entry.is_dir(follow_symlinks=False):
             if entry.name != "must-fail":
                 yield from files_under(entry.path)
         else:
@@ -108,7 +108,7 @@ def state_of(files):
     """Name, size and time of change of each file, as one short text."""
     digest = hashlib.sha256()
     for file in files:
-        status = os.stat(file)
+        status = os.lstat(file)
         digest.update(f"{os.path.relpath(file, ROOT)} {status.st_size} {status.st_mtime_ns}\n".encode())
     return digest.hexdigest()
 
@@ -245,7 +245,7 @@ def main(program, use, longest, read_answer):
     signal.signal(signal.SIGINT, signal.SIG_DFL)
     try:
         status = answer_to(sys.argv[1:], program, use, longest, read_answer)
-    except NoAnswer as why:
+    except (NoAnswer, OSError) as why:
         tell(program, f"no answer: {why}")
         status = NO_ANSWER
     sys.exit(SAID + status)

@@ -37,9 +37,11 @@ def is_open(descriptor):
         return False
 
 
-def hold_closed():
-    """Whether standard output is open. Where output or error are closed, /dev/null holds their numbers from then on: no file that is opened later takes them."""
+def settle_descriptors():
+    """Whether standard output is open. Standard input gets its own number back, for file names such as /dev/stdin; if it is closed, a directory stands there, which
+    can't be read. Where output or error are closed, /dev/null holds their numbers: no file that is opened later takes them."""
     was_open = is_open(1)
+    os.dup2(INPUT if is_open(INPUT) else os.open("/", os.O_RDONLY), 0)
     for descriptor in (1, 2):
         if not is_open(descriptor):
             os.set_inheritable(os.open(os.devnull, os.O_RDWR), True)  # takes the lowest free number: this one
@@ -216,7 +218,7 @@ def parsed(words, use):
 
 def answer_to(words, program, use, longest, read_answer):
     """The launcher's work, and its status."""
-    output_open = hold_closed()
+    output_open = settle_descriptors()
     print_only, quiet, file = parsed(words, use)
     if not output_open:
         raise NoAnswer("standard output is closed, there is no place for an answer")

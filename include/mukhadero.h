@@ -1,15 +1,21 @@
 /*
- * mukhadero: does a table hold an accepted lasso?
+ * mukhadero: does a table hold an accepted lasso? docs/RULES.md of the repository has the rules, complete.
  *
  * A table has states 0..n-1, a start state and edges 0..m-1; edge e leads from from[e] to to[e] and bears the marks whose bits are
  * set in marks[e]. A lasso is a prefix (a walk from the start, perhaps empty) and a cycle (a non-empty walk from the end of the
  * prefix back to it). The judge answers "run" with an accepted lasso, "empty" if there is none, or refuses with a number and a place.
  *
- * Everything is lent by the caller: nothing is allocated, nothing is kept between calls, and calls on different buffers may run
- * at the same time. No input is undefined as long as each pointer is good for its count of cells and no lent output overlaps
- * another buffer of the same call. A count may be 0; its pointer is then not followed.
+ * What a caller must see to; no other input is undefined:
+ * - Each pointer is good for its count of cells of 32 bits and aligned as uint32_t is. A count may be 0; its pointer is then not
+ *   followed and may be NULL. `needs` has no count: it always points to eight cells and is never NULL.
+ * - A buffer that is written (room, scratch, the translation's outputs) overlaps no other buffer of the same call.
  *
- * Link with target/staticlib/libmukhadero.a (made by `rt staticlib mukhadero`).
+ * Memory: nothing is allocated and nothing is kept between calls. A call takes less than 64 KB of stack, whatever the table.
+ * Threads: calls may run at the same time. Tables and needs are only read and may be shared; room, scratch and outputs may not.
+ * Platform: x86-64 Linux, the C calling convention there; of the C library only memset is used.
+ *
+ * Link with target/staticlib/libmukhadero.a, made by `rt staticlib mukhadero`. mukhadero.pc, in the root of the repository, is for
+ * pkg-config.
  */
 #ifndef MUKHADERO_H
 #define MUKHADERO_H
@@ -17,13 +23,18 @@
 #include <stddef.h>
 #include <stdint.h>
 
-#define MUKHADERO_VERSION       "1.0.0"
-#define MUKHADERO_VERSION_MAJOR 1
-#define MUKHADERO_VERSION_MINOR 0
-#define MUKHADERO_VERSION_PATCH 0
+/* The version of this header; mukhadero_version() gives that of the archive. They must be equal. */
+#define MUKHADERO_VERSION_STRING "1.0.0"
+#define MUKHADERO_VERSION_MAJOR  1
+#define MUKHADERO_VERSION_MINOR  0
+#define MUKHADERO_VERSION_PATCH  0
+#define MUKHADERO_VERSION (10000 * MUKHADERO_VERSION_MAJOR + 100 * MUKHADERO_VERSION_MINOR + MUKHADERO_VERSION_PATCH)
 
 #ifdef __cplusplus
+#define MUKHADERO_SIZE(x) (static_cast<size_t>(x))
 extern "C" {
+#else
+#define MUKHADERO_SIZE(x) ((size_t)(x))
 #endif
 
 /* Limits of the rows below. */
@@ -64,10 +75,13 @@ enum {
     MUKHADERO_REFUSED_PROGRAM_LIMIT = 23  /* above the program's limits; place: the line */
 };
 
-/* Lasso room that is never too short for n states, in cells of 32 bits; r is k for Buchi, p for Streett, the largest need for Rabin. */
-#define MUKHADERO_ROOM_CELLS(r, n) (((size_t)(r) + 2) * (size_t)(n) - 1)
+/*
+ * Lasso room that is never too short for n states, in cells of 32 bits; r is k for Buchi, p for Streett, the largest need for Rabin.
+ * 0 if n is 0, which is refused anyway. Like the next, for numbers within the limits above; n may be evaluated twice.
+ */
+#define MUKHADERO_ROOM_CELLS(r, n) ((n) == 0 ? MUKHADERO_SIZE(0) : (MUKHADERO_SIZE(r) + 2) * MUKHADERO_SIZE(n) - 1)
 /* Scratch that is never too short for n states and m edges, in words of 32 bits. */
-#define MUKHADERO_SCRATCH_WORDS(n, m) (8 * (size_t)(n) + 4 * (size_t)(m) + 64)
+#define MUKHADERO_SCRATCH_WORDS(n, m) (8 * MUKHADERO_SIZE(n) + 4 * MUKHADERO_SIZE(m) + 64)
 
 /* A judge's answer. A field that has no meaning for the verdict is 0. */
 typedef struct mukhadero_answer {
@@ -87,6 +101,9 @@ typedef struct mukhadero_table {
     uint32_t edges;  /* edges of the translated table: m*K */
     uint32_t start;  /* start of the translated table: start*K */
 } mukhadero_table;
+
+/* The version of the archive, numbered as MUKHADERO_VERSION. */
+uint32_t mukhadero_version(void);
 
 /*
  * Buchi k: a lasso is accepted if its cycle bears each of the marks 0..k-1.

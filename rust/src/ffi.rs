@@ -46,6 +46,7 @@ pub struct TranslatedTable {
 
 #[rustfmt::skip]
 extern "C" {
+    fn mukhadero_version() -> u32;
     fn mukhadero_judge_buchi(
         n: u32, start: u32, from: *const u32, from_len: usize, to: *const u32, to_len: usize, marks: *const u32, marks_len: usize,
         k: u32, room: *mut u32, room_len: usize, scratch: *mut u32, scratch_len: usize,
@@ -64,7 +65,15 @@ extern "C" {
     ) -> TranslatedTable;
 }
 
+/// The version of the linked archive: 10,000 for the major number, 100 for the minor, 1 for the patch.
+#[must_use]
+pub fn version() -> u32 {
+    // Safety: it takes and touches nothing.
+    unsafe { mukhadero_version() }
+}
+
 /// Judges a table under Büchi `k`; the answer in plain numbers.
+#[must_use]
 #[rustfmt::skip]
 pub fn judge_buchi(table: &Table, k: u32, room: &mut [u32], scratch: &mut [u32]) -> Answer {
     let Table { states: n, start, from, to, marks } = *table;
@@ -78,6 +87,7 @@ pub fn judge_buchi(table: &Table, k: u32, room: &mut [u32], scratch: &mut [u32])
 }
 
 /// Judges a table under Streett `p`; the answer in plain numbers.
+#[must_use]
 #[rustfmt::skip]
 pub fn judge_streett(table: &Table, p: u32, room: &mut [u32], scratch: &mut [u32]) -> Answer {
     let Table { states: n, start, from, to, marks } = *table;
@@ -91,6 +101,7 @@ pub fn judge_streett(table: &Table, p: u32, room: &mut [u32], scratch: &mut [u32
 }
 
 /// Judges a table under Rabin `p` with these needs; the answer in plain numbers.
+#[must_use]
 #[rustfmt::skip]
 pub fn judge_rabin(table: &Table, p: u32, needs: &[u32; 8], room: &mut [u32], scratch: &mut [u32]) -> Answer {
     let Table { states: n, start, from, to, marks } = *table;
@@ -104,6 +115,7 @@ pub fn judge_rabin(table: &Table, p: u32, needs: &[u32; 8], room: &mut [u32], sc
 }
 
 /// Judges a table; the answer in plain numbers.
+#[must_use]
 pub fn judge(table: &Table, condition: &Condition, room: &mut [u32], scratch: &mut [u32]) -> Answer {
     match *condition {
         Condition::Buchi { marks } => judge_buchi(table, marks, room, scratch),
@@ -113,6 +125,7 @@ pub fn judge(table: &Table, condition: &Condition, room: &mut [u32], scratch: &m
 }
 
 /// Translates a table; the answer in plain numbers.
+#[must_use]
 #[rustfmt::skip]
 pub fn one_mark(
     table: &Table,

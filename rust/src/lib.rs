@@ -5,8 +5,10 @@
 //! accepted. [`judge`] answers with an accepted lasso, with "empty" if there is none, or with a numbered [`Refusal`].
 //!
 //! The judge itself is a proved library, linked as a C archive: a false "run" and a false "empty" are both ruled out by proof, for
-//! every input. This crate only turns slices into pointers and numbers into enums. It allocates only in [`Judge`], which keeps
-//! room and scratch for those who do not want to lend their own.
+//! every input. This crate is not proved; it only turns slices into pointers and numbers into enums. It allocates only in
+//! [`Judge`], which keeps room and scratch for those who do not want to lend their own. Calls may run at the same time in several
+//! threads; a call takes less than 64 KB of stack. The archive is for x86-64 Linux. docs/RULES.md of the repository has the rules,
+//! complete.
 //!
 //! # Example
 //!
@@ -49,6 +51,19 @@ pub mod ffi;
 mod refusal;
 
 pub use refusal::{Cause, Refusal};
+
+/// The version of this crate as the archive numbers its own: 10,000 for the major number, 100 for the minor, 1 for the patch.
+pub const VERSION: u32 = 10_000;
+
+/// The version of the linked archive; an archive that fits this crate gives [`VERSION`].
+///
+/// ```
+/// assert_eq!(mukhadero::version(), mukhadero::VERSION);
+/// ```
+#[must_use]
+pub fn version() -> u32 {
+    ffi::version()
+}
 
 /// Most states of a table.
 pub const MOST_STATES: u32 = 4096;
@@ -98,6 +113,30 @@ pub enum Condition {
 }
 
 impl Condition {
+    /// Rabin with one pair for each of these needs.
+    ///
+    /// # Errors
+    ///
+    /// [`Cause::Condition`] for more than 8 needs, as the judge would say. Needs that come to more than 32 marks are left to the
+    /// judge.
+    ///
+    /// ```
+    /// use mukhadero::{Cause, Condition};
+    ///
+    /// // Pair 0: mark 0 forbidden, marks 1 and 2 needed. Pair 1: mark 3 forbidden, nothing needed.
+    /// assert_eq!(Condition::rabin(&[2, 0])?, Condition::Rabin { pairs: 2, needs: [2, 0, 0, 0, 0, 0, 0, 0] });
+    /// assert_eq!(Condition::rabin(&[0; 9]).unwrap_err().cause, Cause::Condition);
+    /// # Ok::<(), mukhadero::Refusal>(())
+    /// ```
+    pub fn rabin(needs: &[u32]) -> Result<Self, Refusal> {
+        let mut eight = [0; 8];
+        match eight.get_mut(..needs.len()) {
+            Some(first) => first.copy_from_slice(needs),
+            None => return Err(Refusal { cause: Cause::Condition, place: 0 }),
+        }
+        Ok(Condition::Rabin { pairs: needs.len() as u32, needs: eight })
+    }
+
     /// The number of marks that a cycle may have to collect: the marks, the pairs, or the largest need.
     fn wanted(&self) -> u32 {
         match *self {
@@ -109,6 +148,7 @@ impl Condition {
 }
 
 /// An accepted lasso. The cells stand in the lent room.
+#[must_use]
 #[derive(Clone, Copy, Debug, PartialEq, Eq)]
 pub struct Lasso<'r> {
     /// Edges from the start to where the cycle begins; fewer than the table has states.
@@ -120,6 +160,7 @@ pub struct Lasso<'r> {
 }
 
 /// What the judge says of a table that it does not refuse.
+#[must_use]
 #[derive(Clone, Copy, Debug, PartialEq, Eq)]
 pub enum Verdict<'r> {
     /// There is an accepted lasso; here is one.
@@ -136,6 +177,7 @@ pub enum Verdict<'r> {
 /// use mukhadero::{room_needed, Condition};
 /// assert_eq!(room_needed(1, &Condition::Buchi { marks: 1 }), 2);
 /// ```
+#[must_use]
 pub fn room_needed(states: u32, condition: &Condition) -> usize {
     (condition.wanted().min(MOST_WANTED) as usize + 2) * states.clamp(1, MOST_STATES) as usize - 1
 }
@@ -145,6 +187,7 @@ pub fn room_needed(states: u32, condition: &Condition) -> usize {
 /// ```
 /// assert_eq!(mukhadero::scratch_needed(3, 3), 8 * 3 + 4 * 3 + 64);
 /// ```
+#[must_use]
 pub fn scratch_needed(states: u32, edges: usize) -> usize {
     8 * states.min(MOST_STATES) as usize + 4 * edges.min(MOST_EDGES) + 64
 }
@@ -205,6 +248,7 @@ pub struct Judge {
 
 impl Judge {
     /// A judge without any room yet.
+    #[must_use]
     pub fn new() -> Self {
         Self::default()
     }
@@ -222,6 +266,7 @@ impl Judge {
 }
 
 /// The counts and the start of a translated table. Its edges stand in the lent outputs.
+#[must_use]
 #[derive(Clone, Copy, Debug, PartialEq, Eq)]
 pub struct Translated {
     /// Number of states.

@@ -1,34 +1,40 @@
-//! Refusals: the numbers of document 01's table and their places.
+//! Refusals: their numbers (docs/RULES.md, "What comes back") and their places.
 
 use std::fmt;
 
-/// Why a table was refused.
+/// Why a table was refused. The numbers are those of docs/RULES.md, "What comes back", which also says which of several causes is
+/// told.
 #[derive(Clone, Copy, Debug, PartialEq, Eq, Hash)]
 #[non_exhaustive]
 pub enum Cause {
-    /// Number 1: there are no states, or more than 4,096.
+    /// Number 1: there are no states, or more than [`MOST_STATES`](crate::MOST_STATES).
     States,
-    /// Number 2: the three edge tables differ in length, or there are more than 32,768 edges.
+    /// Number 2: `from`, `to` and `marks` differ in length, or there are more than [`MOST_EDGES`](crate::MOST_EDGES) edges.
     Edges,
     /// Number 3: the start is not below the number of states.
     Start,
-    /// Number 4: too many marks or pairs, or a need from `pairs` on that is not 0.
+    /// Number 4: more than 32 Büchi marks, 16 Streett pairs or 8 Rabin pairs; a Rabin need from `pairs` on that is not 0; or more
+    /// than 32 Rabin marks in all, counting one forbidden mark and the needed ones of each pair.
     Condition,
-    /// Number 5: an edge end is not below the number of states. The place is the edge.
+    /// Number 5: an edge leaves or arrives at a number that is not below the number of states. The place is the first such edge.
     EdgeEnd,
-    /// Number 6: an edge's from is below the one before it. The place is the edge.
+    /// Number 6: an edge leaves a lower state than the edge before it does: the edges must be sorted by `from`. The place is the
+    /// edge.
     EdgeOrder,
-    /// Number 7: an edge bears a mark that the condition does not use. The place is the edge.
+    /// Number 7: an edge bears a mark that the condition does not use: Büchi uses as many as it has marks, Streett two a pair, Rabin
+    /// one and its need a pair. The place is the edge.
     EdgeMark,
-    /// Number 8: the lasso room is too short.
+    /// Number 8: the lasso room is shorter than [`room_needed`](crate::room_needed) says. Never told by [`Judge`](crate::Judge).
     Room,
-    /// Number 9: the scratch is too short.
+    /// Number 9: the scratch is shorter than [`scratch_needed`](crate::scratch_needed) says. Never told by
+    /// [`Judge`](crate::Judge).
     Scratch,
-    /// Number 10: the translated table would have more than 4,096 states or 32,768 edges.
+    /// Number 10, translation only: the translated table, with max(k, 1) times the states and edges, would have more than 4,096
+    /// states or 32,768 edges.
     TableSize,
-    /// Number 11: a lent output is shorter than the translated edge count.
+    /// Number 11, translation only: an output is shorter than the translated edge count, max(k, 1) times the table's.
     Output,
-    /// A number that this crate does not know: the archive is of another version.
+    /// A number that this crate does not know: the archive is of another version (see [`version`](crate::version)).
     Unknown(u32),
 }
 
@@ -51,6 +57,7 @@ impl Cause {
     }
 
     /// The number of the cause, as in the printed answer and in `mukhadero.h`.
+    #[must_use]
     pub fn number(self) -> u32 {
         match self {
             Cause::States => 1,
@@ -89,6 +96,7 @@ impl fmt::Display for Cause {
 }
 
 /// A refusal: its cause and its place, which is the edge for the causes that name one, else 0.
+#[must_use]
 #[derive(Clone, Copy, Debug, PartialEq, Eq, Hash)]
 pub struct Refusal {
     /// Why.

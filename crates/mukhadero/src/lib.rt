@@ -19,6 +19,9 @@ const RUN: u32 = 2;
 
 const ANSWERED: u32 = 0;
 
+// 1.0.0: 10,000 for the major number, 100 for the minor, 1 for the patch; as MUKHADERO_VERSION of the header
+const VERSION: u32 = 10000;
+
 // `mukhadero_answer`: a field that has no meaning for the verdict is 0.
 #[repr(C)]
 pub struct AnswerNumbers {
@@ -103,6 +106,14 @@ fn table_numbers(answer: Translation) -> TableNumbers
             start: 0,
         },
     }
+}
+
+// The version of this archive.
+#[no_mangle]
+pub extern "C" fn mukhadero_version() -> u32
+    ensures { λ r. ⌜ r ≡ 10000 ⌝ }
+{
+    VERSION
 }
 
 // Judges a table under Büchi k.

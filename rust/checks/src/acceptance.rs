@@ -1,4 +1,5 @@
-//! Acceptance and bounds, written from document 01 alone: slowly, with wide numbers, word by word.
+//! Acceptance and bounds, written from docs/RULES.md ("Conditions", "What comes back") alone: slowly, with wide numbers, word by
+//! word.
 
 use mukhadero::Condition;
 
@@ -33,7 +34,7 @@ pub fn accepted(condition: &Condition, m: u32) -> bool {
     }
 }
 
-/// r of document 01.
+/// r of docs/RULES.md, "What comes back".
 pub fn r(condition: &Condition) -> u64 {
     match *condition {
         Condition::Buchi { marks } => marks as u64,

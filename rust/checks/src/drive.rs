@@ -130,7 +130,7 @@ fn any_case(random: &mut Random) -> Case {
 /// is itself held against the others wherever they are asked).
 fn expected(case: &Case, random: &mut Random) -> (Expected, &'static str) {
     if refusal::of_judge(case).is_some() {
-        return (oracle::by_marks_collected(case), "document 01's rows");
+        return (oracle::by_marks_collected(case), "the rows of docs/RULES.md");
     }
     let (n, m) = (case.states as u64, case.edges() as u64);
     let borne = case.marks.iter().fold(0, |union, marks| union | marks).count_ones() as u64;

@@ -1,4 +1,4 @@
-//! One case through one judge: every promise of document 01 about the answer and the lent cells is looked at.
+//! One case through one judge: every promise of docs/RULES.md about the answer and the lent cells is looked at.
 
 use crate::acceptance;
 use crate::case::{Case, Edge};
@@ -18,7 +18,7 @@ pub enum Promise {
     Guards,
     /// The tables, and the needs, are only read.
     Tables,
-    /// Verdict (or whether a translation is made), number and place are those of document 01.
+    /// Verdict (or whether a translation is made), number and place are those of docs/RULES.md.
     Verdict,
     Number,
     Place,

@@ -1,6 +1,6 @@
 //! The linked judge held against something that shares none of its definitions.
 //!
-//! - [`acceptance`] and [`refusal`]: which lassos are accepted and what a table is refused for, in document 01's words.
+//! - [`acceptance`] and [`refusal`]: which lassos are accepted and what a table is refused for, in the words of docs/RULES.md.
 //! - [`oracle`]: verdicts without components: a search over pairs of state and marks collected; and for tables too large for
 //!   that, reachability goal by goal.
 //! - [`families`] and [`damage`]: tables, structured, random and broken. [`random`]: numbers from fixed seeds.

@@ -1,4 +1,4 @@
-//! Rows 1 to 11, written from document 01 alone: slowly, with wide numbers, word by word.
+//! Rows 1 to 11, written from docs/RULES.md ("What comes back") alone: slowly, with wide numbers, word by word.
 
 use crate::acceptance;
 use crate::case::Case;

@@ -1,4 +1,4 @@
-//! Document 01's fourteen cases, its edges of the limits and large tables, through the linked judge
+//! The fourteen cases of docs/RULES.md ("Shift cases"), its edges of the limits and large tables, through the linked judge
 //! and the plain one: stored answers, each also put through the harness.
 
 use checks::acceptance;

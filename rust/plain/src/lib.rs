@@ -19,7 +19,7 @@ pub use refusal::{room_needed, scratch_needed};
 
 use work::Work;
 
-/// Document 01's three kinds of condition, each with its number; Rabin's needs stand beside it.
+/// The three kinds of condition (docs/RULES.md, "Conditions"), each with its number; Rabin's needs stand beside it.
 #[derive(Clone, Copy, Debug)]
 pub enum Condition {
     Buchi(u32),

@@ -1,4 +1,4 @@
-//! Rows 1 to 9 of document 01's table, in its order.
+//! Rows 1 to 9 (docs/RULES.md, "What comes back"), in their order.
 
 use crate::{Condition, Table};
 
@@ -31,7 +31,7 @@ fn used_marks(condition: &Condition) -> Option<u32> {
     (count <= 32).then(|| first_marks(count))
 }
 
-/// r of document 01: k, p, or the largest need.
+/// r of the rules: k, p, or the largest need.
 fn most_legs(condition: &Condition) -> u32 {
     match *condition {
         Condition::Buchi(k) => k,

@@ -57,6 +57,12 @@ macro_rules! table {
     };
 }
 
+/// The version of the header that this stands in for.
+#[no_mangle]
+pub extern "C" fn mukhadero_version() -> u32 {
+    10_000
+}
+
 /// # Safety
 /// Each pointer is good for its count of cells; lent outputs overlap nothing.
 #[rustfmt::skip]

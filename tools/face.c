@@ -1,0 +1,49 @@
+/* The header against the archive, in C and in C++: tools/outside compiles this with every warning an error, and runs it. */
+#include <stdio.h>
+#include "mukhadero.h"
+
+static int failed = 0;
+
+static void expect(int holds, const char *what) {
+    if (!holds) {
+        printf("face: %s: FAILED\n", what);
+        failed = 1;
+    }
+}
+
+/* the macros are constants, for arrays that are not allocated */
+enum { STATES = 4, EDGES = 4, PAIRS = 2 };
+static uint32_t room[MUKHADERO_ROOM_CELLS(PAIRS, STATES)], scratch[MUKHADERO_SCRATCH_WORDS(STATES, EDGES)];
+enum { ROOM = sizeof room / sizeof *room, SCRATCH = sizeof scratch / sizeof *scratch };
+
+int main(void) {
+    const uint32_t from[EDGES] = {0, 1, 2, 3}, to[EDGES] = {1, 2, 3, 1}, marks[EDGES] = {1, 0, 2, 0}, needs[8] = {1, 0, 0, 0, 0, 0, 0, 0};
+    uint32_t none = 0, out_from[5], out_to[5], out_marks[5];
+    mukhadero_answer a;
+    mukhadero_table t;
+
+    expect(mukhadero_version() == MUKHADERO_VERSION, "the archive has the version of the header");
+    expect(MUKHADERO_ROOM_CELLS(PAIRS, none) == 0, "no states need no room");
+    expect(MUKHADERO_ROOM_CELLS(1, 1) == 2 && ROOM == 15, "(r + 2) n - 1 cells of room");
+    expect(MUKHADERO_SCRATCH_WORDS(none, none) == 64 && SCRATCH == 112, "8 n + 4 m + 64 words of scratch");
+
+    a = mukhadero_judge_rabin(STATES, 0, from, EDGES, to, EDGES, marks, EDGES, 1, needs, room, ROOM, scratch, SCRATCH);
+    expect(a.verdict == MUKHADERO_VERDICT_RUN && a.number == MUKHADERO_ANSWERED && a.pair == 0, "a forbidden mark on the prefix only is no hindrance");
+    expect(a.prefix_length >= 1 && a.prefix_length < STATES && a.cycle_length >= 3 && a.cycle_length <= 2 * STATES, "a prefix and a cycle");
+    expect(room[0] == 0 && to[room[a.prefix_length - 1]] == from[room[a.prefix_length]], "the lasso stands in the room");
+    a = mukhadero_judge_buchi(STATES, 0, from, EDGES, to, EDGES, marks, EDGES, 2, room, ROOM, scratch, SCRATCH);
+    expect(a.verdict == MUKHADERO_VERDICT_EMPTY && a.number == MUKHADERO_ANSWERED, "mark 0 does not come round");
+    a = mukhadero_judge_streett(STATES, 0, from, EDGES, to, EDGES, marks, EDGES, 0, room, ROOM, scratch, SCRATCH);
+    expect(a.verdict == MUKHADERO_VERDICT_REFUSED && a.number == MUKHADERO_REFUSED_EDGE_MARK && a.place == 0, "a mark that the condition does not use");
+    t = mukhadero_one_mark(STATES, 0, from, EDGES, to, EDGES, marks, EDGES, 1, out_from, 5, out_to, 5, out_marks, 5);
+    expect(t.number == MUKHADERO_REFUSED_EDGE_MARK && t.place == 2, "the translation refuses as the judge does");
+
+    /* a count of 0 with no pointer */
+    a = mukhadero_judge_buchi(1, 0, NULL, 0, NULL, 0, NULL, 0, 0, room, 1, scratch, 72);
+    expect(a.verdict == MUKHADERO_VERDICT_EMPTY, "no edges");
+    a = mukhadero_judge_buchi(0, 0, NULL, 0, NULL, 0, NULL, 0, 0, NULL, 0, NULL, 0);
+    expect(a.verdict == MUKHADERO_VERDICT_REFUSED && a.number == MUKHADERO_REFUSED_STATES, "no states");
+    t = mukhadero_one_mark(1, 0, NULL, 0, NULL, 0, NULL, 0, 0, NULL, 0, NULL, 0, NULL, 0);
+    expect(t.number == MUKHADERO_ANSWERED && t.states == 1 && t.edges == 0, "no edges to translate");
+    return failed;
+}

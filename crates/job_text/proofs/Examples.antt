@@ -1,4 +1,4 @@
--- Document 01's own examples of the job text and of the printed answer, computed from the definitions. Assumes nothing.
+-- The rules' own examples (docs/RULES.md) of the job text and of the printed answer, computed from the definitions. Assumes nothing.
 use mathlib.Core.Path.{_≡_, refl}
 use mathlib.Core.List.{List, [], _∷_}
 use Prim.Native.Nat.{ℕ}

@@ -1,4 +1,4 @@
--- Which texts are jobs, what each says, and where the others are at fault (document 01, "The job text and the printed answer").
+-- Which texts are jobs, what each says, and where the others are at fault (docs/RULES.md, "The job text and the printed answer").
 -- Assumes nothing.
 use mathlib.Core.Bool.{Bool, false, cond}
 use mathlib.Core.List.{List, [], _∷_}

@@ -1,4 +1,4 @@
--- The printed answer (document 01, "The job text and the printed answer"). Assumes nothing.
+-- The printed answer (docs/RULES.md, "The job text and the printed answer"). Assumes nothing.
 use mathlib.Core.Path.{_≡_}
 use mathlib.Core.Bool.{Bool, true, false, cond}
 use mathlib.Core.List.{List, [], _∷_, _++_}

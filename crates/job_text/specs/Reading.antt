@@ -1,4 +1,4 @@
--- What the reader gives for a text, and what its tables hold (document 01, "A refusal gives its number and place, and changes no lent
+-- What the reader gives for a text, and what its tables hold (docs/RULES.md, "What comes back": "A refusal gives its number and place, and changes no lent
 -- cell"; "a lent output has zeros from the end of what is written to its own end"). Assumes nothing.
 use mathlib.Core.Path.{_≡_}
 use mathlib.Core.List.{List, [], map}

@@ -1,4 +1,4 @@
--- How a text is cut into lines and fields (document 01, "The job text and the printed answer"). Assumes nothing.
+-- How a text is cut into lines and fields (docs/RULES.md, "The job text and the printed answer"). Assumes nothing.
 use mathlib.Core.Bool.{Bool, true, false, cond, _&&_}
 use mathlib.Core.List.{List, [], _∷_}
 use mathlib.Core.Path.{_≡_}

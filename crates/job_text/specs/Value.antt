@@ -1,4 +1,4 @@
--- The form of each value of the job text, and what it says (document 01, "The job text and the printed answer"):
+-- The form of each value of the job text, and what it says (docs/RULES.md, "The job text and the printed answer"):
 -- `none` where the bytes are not of the form. Assumes nothing.
 use mathlib.Core.Bool.{Bool, false, cond, _&&_}
 use mathlib.Core.List.{List, [], _∷_, _++_}

@@ -1,4 +1,4 @@
-// The job text reader and the printer of answers (document 01, "The job text and the printed answer").
+// The job text reader and the printer of answers (docs/RULES.md, "The job text and the printed answer").
 // Relies on the crate `table` for the condition, the finding and the answer. What a text says is in specs/Job.antt,
 // what is printed in specs/Printed.antt.
 mod line;

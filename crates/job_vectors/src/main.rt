@@ -1,5 +1,5 @@
 // Runs the job text reader over stored texts and prints what each says, a line each. Standard input has, for each text, its length as a decimal
-// number and a newline, and then its bytes (tools/job_vectors.py writes both files from document 01 alone).
+// number and a newline, and then its bytes (tools/job_vectors.py writes both files from docs/RULES.md alone).
 use job_text::reader::read;
 use libc::STDOUT_FILENO;
 use std::num::wrapping_add_u32;

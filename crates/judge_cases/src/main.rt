@@ -1,4 +1,4 @@
-// Judges the shift cases 1 to 13 of document 01, and prints a line for each: the case, the verdict, number and place, the pair,
+// Judges the shift cases 1 to 13 of docs/RULES.md, and prints a line for each: the case, the verdict, number and place, the pair,
 // the edges of prefix and cycle. Room and scratch hold 7 before.
 use judging::judge;
 use libc::STDOUT_FILENO;

@@ -1,4 +1,4 @@
-// Judges tables at the edges of document 01's limits, and prints a line for each: the verdict with its numbers, then a word on the
+// Judges tables at the edges of the rules' limits, and prints a line for each: the verdict with its numbers, then a word on the
 // lent cells, which hold 7 before: `zero` if room behind the lasso and scratch hold 0, `kept` if both hold 7, else `wrong`.
 ghost use Prim.Native.Nat.{_+_, _^_, _<_};
 ghost use lib.ListN.{length};

@@ -1,4 +1,4 @@
-// r of document 01: how many marks a cycle may have to be led past.
+// r of docs/RULES.md: how many marks a cycle may have to be led past.
 ghost use mathlib.Core.Path.{_≡_};
 ghost use Prim.Native.Nat.{max};
 ghost use Rattle.judging.specs.Answer.{largest, rank};

@@ -1,4 +1,4 @@
--- Mark sets (document 01, "Tables, walks and lassos": "a 32-bit set of marks"). Mark i is bit i of a word.
+-- Mark sets (docs/RULES.md, "Tables, walks and lassos": "a 32-bit set of marks"). Mark i is bit i of a word.
 -- What is plain of each definition is proved once for every width in proofs/Laws.antt. Assumes nothing.
 use mathlib.Core.Path.{_≡_}
 use Prim.Native.Nat.{ℕ, _-_, _/_, _%_, _^_, min}

@@ -1,4 +1,4 @@
-// Mark sets: a set of marks is one word, and mark i is bit i (document 01, "Tables, walks and lassos").
+// Mark sets: a set of marks is one word, and mark i is bit i (docs/RULES.md, "Tables, walks and lassos").
 // Relies on nothing. What `has` means is in specs/Mark.antt; the laws, over every width, are in proofs/Laws.antt.
 ghost use mathlib.Core.Path.{_≡_};
 ghost use Prim.Native.Nat.{ℕ, _<_};

@@ -1,4 +1,4 @@
--- What the C face tells (document 01, "What comes back"): the numbers of an answer that the judge, or the translation, promises. Assumes nothing.
+-- What the C face tells (docs/RULES.md, "What comes back"): the numbers of an answer that the judge, or the translation, promises. Assumes nothing.
 use mathlib.Core.Path.{_≡_}
 use mathlib.Core.List.{List}
 use Prim.Native.Nat.{ℕ}

@@ -1,4 +1,4 @@
--- The position rule (document 01: "The source edge under a translated edge follows from its position"): an edge at a level stands at `place`,
+-- The position rule (docs/RULES.md, "One-mark translation": "The source edge under a translated edge follows from its position"): an edge at a level stands at `place`,
 -- the edge and the level at a position are `under` and `levelAt`, and every cell is what the definition gives for them. Assumes nothing.
 use mathlib.Core.Path.{_≡_, sym, ap, _∙_, subst}
 use Prim.Native.Nat.{ℕ, suc, _+_, _-_, _*_, _/_, _%_, _≤_, _<_}

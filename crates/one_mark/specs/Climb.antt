@@ -1,4 +1,4 @@
--- Levels and climbs (document 01, "One-mark translation"). Assumes nothing.
+-- Levels and climbs (docs/RULES.md, "One-mark translation"). Assumes nothing.
 use mathlib.Core.Bool.{Bool, true, false}
 use Prim.Native.Nat.{ℕ, zero, suc, _+_, _-_, _*_, _/_, _%_, _^_, max}
 use lib.Dec.{ltb, eqb}

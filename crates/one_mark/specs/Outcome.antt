@@ -1,4 +1,4 @@
--- What the translation answers and leaves in the lent outputs (document 01, "What comes back": "For the translation 1 to 7 in the same way, then
+-- What the translation answers and leaves in the lent outputs (docs/RULES.md, "What comes back": "For the translation 1 to 7 in the same way, then
 -- 10, 11"). Assumes nothing.
 use mathlib.Core.Path.{_≡_}
 use mathlib.Core.Bool.{Bool, _||_, cond}
@@ -64,7 +64,7 @@ pub record Filled (t : Table) (k : ℕ) (leaves arrives bears leaves' arrives' b
   pub to-filled : arrives' ≡ translated t k .to ++ replicate (length arrives - length (translated t k .to)) 0
   pub marks-filled : bears' ≡ translated t k .marks ++ replicate (length bears - length (translated t k .marks)) 0
 
--- ---- document 01's number, place, counts and new start for each answer. The number is 0 exactly if a table was made (`Faithful.outputs-hold` and
+-- ---- the rules' number, place, counts and new start for each answer. The number is 0 exactly if a table was made (`Faithful.outputs-hold` and
 -- `Faithful.refused-untouched`, in proofs/, go by it)
 
 abbrev pub numberOf : Translation → ℕ

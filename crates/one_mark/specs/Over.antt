@@ -1,4 +1,4 @@
--- Translated walks over source walks (document 01, "One-mark translation", and the demand on it). A translated walk lies over the walk of the
+-- Translated walks over source walks (docs/RULES.md, "One-mark translation", and the demand on it). A translated walk lies over the walk of the
 -- source edges under its edges. Assumes nothing.
 use mathlib.Core.Path.{_≡_}
 use mathlib.Core.List.{List, [], _++_, map}

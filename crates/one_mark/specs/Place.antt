@@ -1,4 +1,4 @@
--- The order of the translated edges, and what follows from a position (document 01, "One-mark translation": "Translated edges stand by source
+-- The order of the translated edges, and what follows from a position (docs/RULES.md, "One-mark translation": "Translated edges stand by source
 -- state, then level, then the source edge's place in its row"). Assumes nothing.
 use mathlib.Core.Bool.{cond}
 use mathlib.Core.List.{List, [], _∷_, _++_}

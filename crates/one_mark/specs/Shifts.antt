@@ -1,4 +1,4 @@
--- All fourteen shift cases (document 01, "Shift cases"), under a single statement: cases 1 to 13 with the crate table, and the translation.
+-- All fourteen shift cases (docs/RULES.md, "Shift cases"), under a single statement: cases 1 to 13 with the crate table, and the translation.
 -- proofs/Shifts.antt proves it. Assumes nothing.
 use mathlib.Core.Path.{_≡_}
 use mathlib.Core.List.{[], _∷_}

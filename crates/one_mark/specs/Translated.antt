@@ -1,4 +1,4 @@
--- The translated table (document 01, "One-mark translation"). It is read as Büchi 1. Assumes nothing.
+-- The translated table (docs/RULES.md, "One-mark translation"). It is read as Büchi 1. Assumes nothing.
 use Prim.Native.Nat.{ℕ, _*_}
 use lib.ListN.{getD}
 use Rattle.table.specs.Table.{Table, borne}

@@ -1,4 +1,4 @@
-// The one-mark translation (document 01, "One-mark translation"): a table with k marks, read as Büchi k, becomes one with one mark, read as
+// The one-mark translation (docs/RULES.md, "One-mark translation"): a table with k marks, read as Büchi k, becomes one with one mark, read as
 // Büchi 1, whose accepted lassos lie over those of the first. Relies on `table` for rows 1 to 7 and for the rows of a table.
 mod lift;
 

@@ -1,4 +1,4 @@
--- What the answer of `check` says in document 01's numbers: 0 exactly if rows 1 to 7 find nothing; rows 1 to 4 with place 0, rows 5 to 7 with an
+-- What the answer of `check` says in the rules' numbers: 0 exactly if rows 1 to 7 find nothing; rows 1 to 4 with place 0, rows 5 to 7 with an
 -- edge's place. Assumes nothing.
 use mathlib.Core.Path.{_≡_, refl, sym, _∙_, subst}
 use mathlib.Core.Bool.{Bool, true, false, cond}

@@ -1,4 +1,4 @@
--- When a lasso is accepted (document 01, "Let M be the union of marks on the cycle"). Assumes nothing.
+-- When a lasso is accepted (docs/RULES.md, "Conditions": "Let M be the union of marks on the cycle"). Assumes nothing.
 use mathlib.Core.List.{List}
 use Prim.Native.Nat.{ℕ, zero, suc, _+_, _*_, _<_}
 use lib.ListN.{getD}

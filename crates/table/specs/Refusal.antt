@@ -1,4 +1,4 @@
--- Rows 1 to 7 of document 01's table, in the stated order: the first cause, with its number and place. Assumes nothing.
+-- Rows 1 to 7 of the rules' table, in the stated order: the first cause, with its number and place. Assumes nothing.
 use mathlib.Core.Path.{_≡_}
 use mathlib.Core.Bool.{Bool, false, not, _||_, cond}
 use mathlib.Core.List.{List, [], _∷_}
@@ -95,7 +95,7 @@ refusal t c needs =
     (cond (wrongCondition c needs) (Refused 4 0)
     (edgeRefusal t (used c needs) 0 (t .edges)))))
 
--- ---- document 01's number and place for each answer: 0 and 0 where nothing is found (`Door.check-told`, in proofs/, says what they tell)
+-- ---- the rules' number and place for each answer: 0 and 0 where nothing is found (`Door.check-told`, in proofs/, says what they tell)
 
 abbrev pub numberOf : Finding → ℕ
 numberOf Sound = 0

@@ -1,4 +1,4 @@
--- The row of a state (document 01: "the row of a state is one unbroken run of edge numbers, handed on as a part of the tables").
+-- The row of a state (docs/RULES.md, "Tables, walks and lassos": "the row of a state is one unbroken run of edge numbers, handed on as a part of the tables").
 -- Assumes nothing.
 use mathlib.Core.Path.{_≡_}
 use mathlib.Core.Bool.{cond}

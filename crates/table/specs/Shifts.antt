@@ -1,4 +1,4 @@
--- The numbered shift cases (document 01, "Shift cases"), gathered under a single statement, `ShiftCases`; proofs/Shifts.antt proves it.
+-- The numbered shift cases (docs/RULES.md, "Shift cases"), gathered under a single statement, `ShiftCases`; proofs/Shifts.antt proves it.
 -- Edges are written from>to{marks}, numbered from 0; start 0; n is one above the largest state named, unless said.
 -- The set {0} is the number 1, {1} is 2. Case 14, the translation, stands with it in the crate one_mark. Assumes nothing.
 use mathlib.Core.List.{List, [], _∷_}

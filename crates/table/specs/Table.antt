@@ -1,4 +1,4 @@
--- Tables, walks and lassos (document 01, "Tables, walks and lassos"). Assumes nothing.
+-- Tables, walks and lassos (docs/RULES.md, "Tables, walks and lassos"). Assumes nothing.
 use mathlib.Core.Path.{_≡_}
 use mathlib.Core.List.{List, [], _∷_}
 use Prim.Native.Nat.{ℕ, _<_}

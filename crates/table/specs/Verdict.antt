@@ -1,10 +1,10 @@
--- The parts of a verdict (document 01, "What comes back"; "Where an answer is an enum, the promises use a definition that gives this paper's number and
+-- The parts of a verdict (docs/RULES.md, "What comes back"; "Where an answer is an enum, the promises use a definition that gives this paper's number and
 -- values for each of its cases"). Every crate cites them from here. Assumes nothing.
 use Prim.Native.Nat.{ℕ}
 use Rattle.table.specs.declared.Verdict.{Verdict}
 use Rattle.table.specs.declared.Verdict.the-variants.{Run, Empty, Refused}
 
--- which case it is: 2 a run, 1 empty, 0 refused. These numbers are our own: document 01 gives the cases names only
+-- which case it is: 2 a run, 1 empty, 0 refused. These numbers are our own: docs/RULES.md gives the cases names only
 abbrev pub kindOf : Verdict → ℕ
 kindOf (Run prefix cycle pair) = 2
 kindOf Empty = 1

@@ -1,4 +1,4 @@
-// What a table is, and rows 1 to 7 of document 01: one exact check of a lent table, and the rows of a table.
+// What a table is, and rows 1 to 7 of docs/RULES.md: one exact check of a lent table, and the rows of a table.
 // Relies on the crate `marks`. The meaning of tables, walks, lassos and conditions is in specs/.
 mod condition;
 mod edges;

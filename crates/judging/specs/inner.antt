@@ -19,3 +19,6 @@ pub mod Tying
 -- Judgement, Hunt: the judgement of a part, the hunt for one that holds an accepted lasso.
 pub mod Judgement
 pub mod Hunt
+-- Stamp, Stamping: the parts among which the lasso is chosen.
+pub mod Stamp
+pub mod Stamping

@@ -13,6 +13,9 @@ pub mod Steps
 pub mod Search
 pub mod Searching
 pub mod Trail
--- Tied, Tying: the lasso, and what the functions that write it ask and promise.
+-- Stamp: the parts of a window that meet a goal. Tied, Tying: the lasso, and what the functions that write it ask and promise.
+pub mod Stamp
 pub mod Tied
 pub mod Tying
+-- Choice: what the functions that choose the lasso's knot ask and promise.
+pub mod Choice

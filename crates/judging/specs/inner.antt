@@ -13,12 +13,14 @@ pub mod Steps
 pub mod Search
 pub mod Searching
 pub mod Trail
--- Tied, Tying: the lasso, and what the functions that write it ask and promise.
+-- Stamp: the parts of a window that meet a goal. Tied, Tying: the lasso, and what the functions that write it ask and promise.
+pub mod Stamp
 pub mod Tied
 pub mod Tying
 -- Judgement, Hunt: the judgement of a part, the hunt for one that holds an accepted lasso.
 pub mod Judgement
 pub mod Hunt
--- Stamp, Stamping: the parts among which the lasso is chosen.
-pub mod Stamp
+-- Stamping, Choice, Writing: the parts among which the lasso is chosen, the choice of its knot, and the lasso that is written.
 pub mod Stamping
+pub mod Choice
+pub mod Writing

@@ -128,7 +128,9 @@ pub extern "C" fn mukhadero_judge_buchi(
     room: &mut [u32],
     scratch: &mut [u32],
 ) -> AnswerNumbers
-    ensures { λ r. ⌜ JudgeTells (lent n start (now (from .entry)) (now (to .entry)) (now (marks .entry))) (Acceptance.Buchi k) noNeeds (now (room .entry)) (now (room .exit)) (now (scratch .entry)) (now (scratch .exit)) r ⌝ }
+    ensures { λ r.
+        ⌜ JudgeTells (lent n start (now (from .entry)) (now (to .entry)) (now (marks .entry))) (Acceptance.Buchi k) noNeeds
+        (now (room .entry)) (now (room .exit)) (now (scratch .entry)) (now (scratch .exit)) r ⌝ }
 {
     let answer = judge(
         n,
@@ -156,7 +158,9 @@ pub extern "C" fn mukhadero_judge_streett(
     room: &mut [u32],
     scratch: &mut [u32],
 ) -> AnswerNumbers
-    ensures { λ r. ⌜ JudgeTells (lent n start (now (from .entry)) (now (to .entry)) (now (marks .entry))) (Acceptance.Streett p) noNeeds (now (room .entry)) (now (room .exit)) (now (scratch .entry)) (now (scratch .exit)) r ⌝ }
+    ensures { λ r.
+        ⌜ JudgeTells (lent n start (now (from .entry)) (now (to .entry)) (now (marks .entry))) (Acceptance.Streett p) noNeeds
+        (now (room .entry)) (now (room .exit)) (now (scratch .entry)) (now (scratch .exit)) r ⌝ }
 {
     let answer = judge(
         n,
@@ -185,7 +189,9 @@ pub extern "C" fn mukhadero_judge_rabin(
     room: &mut [u32],
     scratch: &mut [u32],
 ) -> AnswerNumbers
-    ensures { λ r. ⌜ JudgeTells (lent n start (now (from .entry)) (now (to .entry)) (now (marks .entry))) (Acceptance.Rabin p) (now (needs .entry)) (now (room .entry)) (now (room .exit)) (now (scratch .entry)) (now (scratch .exit)) r ⌝ }
+    ensures { λ r.
+        ⌜ JudgeTells (lent n start (now (from .entry)) (now (to .entry)) (now (marks .entry))) (Acceptance.Rabin p) (now (needs .entry))
+        (now (room .entry)) (now (room .exit)) (now (scratch .entry)) (now (scratch .exit)) r ⌝ }
 {
     let dealt = *needs;
     let answer = judge(
@@ -215,7 +221,9 @@ pub extern "C" fn mukhadero_one_mark(
     arrives: &mut [u32],
     bears: &mut [Marks],
 ) -> TableNumbers
-    ensures { λ r. ⌜ TranslationTells (lent n start (now (from .entry)) (now (to .entry)) (now (marks .entry))) k (now (leaves .entry)) (now (arrives .entry)) (now (bears .entry)) r (now (leaves .exit)) (now (arrives .exit)) (now (bears .exit)) ⌝ }
+    ensures { λ r.
+        ⌜ TranslationTells (lent n start (now (from .entry)) (now (to .entry)) (now (marks .entry))) k
+        (now (leaves .entry)) (now (arrives .entry)) (now (bears .entry)) r (now (leaves .exit)) (now (arrives .exit)) (now (bears .exit)) ⌝ }
 {
     let answer = translate(n, start, from, to, marks, k, leaves, arrives, bears);
     table_numbers(answer)

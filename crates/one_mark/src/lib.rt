@@ -54,7 +54,14 @@ fn refused(number: u32) -> Translation
     Translation::Refused { number, place: 0 }
 }
 
-// What the translation will answer, with lent outputs of the lengths `a`, `b` and `c`.
+// The lengths of the three lent outputs.
+struct Lengths {
+    leaves: usize,
+    arrives: usize,
+    bears: usize,
+}
+
+// What the translation will answer, with lent outputs of these lengths.
 fn foresee(
     n: u32,
     start: u32,
@@ -62,11 +69,11 @@ fn foresee(
     to: &[u32],
     marks: &[Marks],
     k: u32,
-    a: usize,
-    b: usize,
-    c: usize,
+    lengths: Lengths,
 ) -> Translation
-    ensures { λ r. ⌜ r ≡ answer (lent n start (now (from .entry)) (now (to .entry)) (now (marks .entry))) k a b c ⌝ }
+    ensures { λ r.
+        ⌜ r ≡ answer (lent n start (now (from .entry)) (now (to .entry)) (now (marks .entry))) k
+        (lengths .leaves) (lengths .arrives) (lengths .bears) ⌝ }
 {
     let finding = table::check(n, start, from, to, marks, Acceptance::Buchi(k), [0; 8]);
     if let Finding::Refused { number, place } = finding {
@@ -78,7 +85,7 @@ fn foresee(
     if too_large(states, edges) {
         return refused(10);
     }
-    if too_short(edges, a, b, c) {
+    if too_short(edges, lengths.leaves, lengths.arrives, lengths.bears) {
         return refused(11);
     }
     let shape = Shape {
@@ -120,7 +127,9 @@ fn fill(
     bears: &mut [Marks],
 )
     requires { ⌜ Ready (shape .states) (shape .k) (shape .levels) edges (now from) (now to) (now marks) (now leaves) (now arrives) (now bears) ⌝ }
-    ensures { λ _. ⌜ Filled (lent (shape .states) 0 (now (from .entry)) (now (to .entry)) (now (marks .entry))) (shape .k) (now (leaves .entry)) (now (arrives .entry)) (now (bears .entry)) (now (leaves .exit)) (now (arrives .exit)) (now (bears .exit)) ⌝ }
+    ensures { λ _.
+        ⌜ Filled (lent (shape .states) 0 (now (from .entry)) (now (to .entry)) (now (marks .entry))) (shape .k)
+        (now (leaves .entry)) (now (arrives .entry)) (now (bears .entry)) (now (leaves .exit)) (now (arrives .exit)) (now (bears .exit)) ⌝ }
 {
     lift_table(shape, from, to, marks, leaves, arrives, bears);
     clear(leaves, edges);
@@ -140,12 +149,16 @@ pub fn translate(
     arrives: &mut [u32],
     bears: &mut [Marks],
 ) -> Translation
-    ensures { λ r. ⌜ Outcome (lent n start (now (from .entry)) (now (to .entry)) (now (marks .entry))) k (now (leaves .entry)) (now (arrives .entry)) (now (bears .entry)) r (now (leaves .exit)) (now (arrives .exit)) (now (bears .exit)) ⌝ }
+    ensures { λ r.
+        ⌜ Outcome (lent n start (now (from .entry)) (now (to .entry)) (now (marks .entry))) k
+        (now (leaves .entry)) (now (arrives .entry)) (now (bears .entry)) r (now (leaves .exit)) (now (arrives .exit)) (now (bears .exit)) ⌝ }
 {
-    let a = leaves.len();
-    let b = arrives.len();
-    let c = bears.len();
-    let answer = foresee(n, start, from, to, marks, k, a, b, c);
+    let lengths = Lengths {
+        leaves: leaves.len(),
+        arrives: arrives.len(),
+        bears: bears.len(),
+    };
+    let answer = foresee(n, start, from, to, marks, k, lengths);
     let Translation::Made {
         states: _,
         edges,

@@ -72,10 +72,15 @@ pub(crate) fn number_of(state: u32, level: u32, shape: Shape) -> u32
     state * shape.levels + level
 }
 
-// Writes the edges of a state's row, taken at one level, from place `at` on; answers with the place behind them.
-fn lift_level(
+// A state at a level.
+struct Rung {
     state: u32,
     level: u32,
+}
+
+// Writes the edges of a state's row, taken at one level, from place `at` on; answers with the place behind them.
+fn lift_level(
+    rung: Rung,
     shape: Shape,
     to: &[u32],
     marks: &[Marks],
@@ -85,17 +90,19 @@ fn lift_level(
     bears: &mut [Marks],
 ) -> usize
     requires { ⌜ Ladder (shape .states) (shape .k) (shape .levels) ⌝ }
-    requires { ⌜ level < shape .levels ⌝ }
-    requires { ⌜ RowAsked (shape .states) state (now to) (now marks) ⌝ }
+    requires { ⌜ rung .level < shape .levels ⌝ }
+    requires { ⌜ RowAsked (shape .states) (rung .state) (now to) (now marks) ⌝ }
     requires { ⌜ Room at (length (now to)) (now leaves) (now arrives) (now bears) ⌝ }
     ensures { λ r. ⌜ r ≡ at + length (now (to .entry)) ⌝ }
-    ensures { λ r. ⌜ LevelWritten (shape .k) state level at (now (to .entry)) (now (marks .entry)) (now (leaves .entry)) (now (arrives .entry)) (now (bears .entry)) (now (leaves .exit)) (now (arrives .exit)) (now (bears .exit)) ⌝ }
+    ensures { λ r.
+        ⌜ LevelWritten (shape .k) (rung .state) (rung .level) at (now (to .entry)) (now (marks .entry))
+        (now (leaves .entry)) (now (arrives .entry)) (now (bears .entry)) (now (leaves .exit)) (now (arrives .exit)) (now (bears .exit)) ⌝ }
 {
     let k = shape.k;
-    let leaving = number_of(state, level, shape);
+    let leaving = number_of(rung.state, rung.level, shape);
     let mut i = 0;
     while i < to.len() {
-        let landing = land(marks[i], level, k);
+        let landing = land(marks[i], rung.level, k);
         let arriving = number_of(to[i], landing.level, shape);
         let place = at + i;
         leaves[place] = leaving;
@@ -121,13 +128,16 @@ fn lift_row(
     requires { ⌜ RowAsked (shape .states) state (now to) (now marks) ⌝ }
     requires { ⌜ Room at (shape .levels * length (now to)) (now leaves) (now arrives) (now bears) ⌝ }
     ensures { λ r. ⌜ r ≡ at + shape .levels * length (now (to .entry)) ⌝ }
-    ensures { λ r. ⌜ RowWritten (shape .k) state (shape .levels) at (now (to .entry)) (now (marks .entry)) (now (leaves .entry)) (now (arrives .entry)) (now (bears .entry)) (now (leaves .exit)) (now (arrives .exit)) (now (bears .exit)) ⌝ }
+    ensures { λ r.
+        ⌜ RowWritten (shape .k) state (shape .levels) at (now (to .entry)) (now (marks .entry))
+        (now (leaves .entry)) (now (arrives .entry)) (now (bears .entry)) (now (leaves .exit)) (now (arrives .exit)) (now (bears .exit)) ⌝ }
 {
     let levels = shape.levels;
     let mut next = at;
     let mut level = 0;
     while level < levels {
-        next = lift_level(state, level, shape, to, marks, next, leaves, arrives, bears);
+        let rung = Rung { state, level };
+        next = lift_level(rung, shape, to, marks, next, leaves, arrives, bears);
         level += 1;
     }
     next
@@ -146,7 +156,9 @@ pub(crate) fn lift_table(
     requires { ⌜ Ladder (shape .states) (shape .k) (shape .levels) ⌝ }
     requires { ⌜ Proper (lent (shape .states) 0 (now from) (now to) (now marks)) ⌝ }
     requires { ⌜ Room 0 (length (now from) * shape .levels) (now leaves) (now arrives) (now bears) ⌝ }
-    ensures { λ _. ⌜ StatesWritten (lent (shape .states) 0 (now (from .entry)) (now (to .entry)) (now (marks .entry))) (shape .k) (shape .states) (now (leaves .entry)) (now (arrives .entry)) (now (bears .entry)) (now (leaves .exit)) (now (arrives .exit)) (now (bears .exit)) ⌝ }
+    ensures { λ _.
+        ⌜ StatesWritten (lent (shape .states) 0 (now (from .entry)) (now (to .entry)) (now (marks .entry))) (shape .k) (shape .states)
+        (now (leaves .entry)) (now (arrives .entry)) (now (bears .entry)) (now (leaves .exit)) (now (arrives .exit)) (now (bears .exit)) ⌝ }
 {
     let mut first = 0;
     let mut place = 0;

@@ -44,7 +44,8 @@ large-told c = c .too-large .ensures ∙ rw (c .before .level-count .ensures)
 -- row 11 was tested
 short-told : (c : tie.After-too-short) →
     let a = c .before .before .before .before .before .before .before .before .before .before .args in
-    c .too-short .result ≡ short (length (a .from .now) * levels (a .k)) (a .a) (a .b) (a .c)
+    let out = a .lengths in
+    c .too-short .result ≡ short (length (a .from .now) * levels (a .k)) (out .leaves) (out .arrives) (out .bears)
 short-told c = c .too-short .ensures ∙ rw (c .before .before .before .level-count .ensures)
 
 check-requires : tie.Need-check-requires
@@ -56,7 +57,9 @@ enum-known-finding c = search needs
 returns : tie.Need-returns
 returns c =
     let entry = c .before .before .before .before .before .before .before in
-    answer-faulty (table entry) (entry .args .k) (entry .args .a) (entry .args .b) (entry .args .c) (c .before .finding .given .0 .0) (c .before .finding .given .0 .1 .0) (sym (c .before .before .before .check .ensures) ∙ c .before .finding .given .1)
+    let out = entry .args .lengths in
+    answer-faulty (table entry) (entry .args .k) (out .leaves) (out .arrives) (out .bears) (c .before .finding .given .0 .0) (c .before .finding .given .0 .1 .0)
+    (sym (c .before .before .before .check .ensures) ∙ c .before .finding .given .1)
 
 enum-told : tie.Need-enum-told
 enum-told c = search needs
@@ -82,8 +85,9 @@ refused-requires c κs = search needs
 returns-2 : tie.Need-returns-2
 returns-2 c =
     let entry = c .before .before .before .before .before .before .before .before .before .before in
+    let out = entry .args .lengths in
     c .refused .ensures
-    ∙ answer-large (table entry) (entry .args .k) (entry .args .a) (entry .args .b) (entry .args .c) (sound (c .before .before .before))
+    ∙ answer-large (table entry) (entry .args .k) (out .leaves) (out .arrives) (out .bears) (sound (c .before .before .before))
     (sym (large-told (c .before .before)) ∙ c .before .if1 .taken)
 
 too-short-requires : tie.Need-too-short-requires
@@ -95,8 +99,9 @@ refused-requires-2 c κs = search needs
 returns-3 : tie.Need-returns-3
 returns-3 c =
     let entry = c .before .before .before .before .before .before .before .before .before .before .before .before in
+    let out = entry .args .lengths in
     c .refused2 .ensures
-    ∙ answer-short (table entry) (entry .args .k) (entry .args .a) (entry .args .b) (entry .args .c) (sound (c .before .before .before .before .before))
+    ∙ answer-short (table entry) (entry .args .k) (out .leaves) (out .arrives) (out .bears) (sound (c .before .before .before .before .before))
     (sym (large-told (c .before .before .before .before)) ∙ c .before .before .before .if1 .left) (sym (short-told (c .before .before)) ∙ c .before .if2 .taken)
 
 number-of-requires : tie.Need-number-of-requires
@@ -116,7 +121,8 @@ returns-4 : tie.Need-returns-4
 returns-4 c =
     let entry = c .before .before .before .before .before .before .before .before .before .before .before .before in
     let a = entry .args in
-    let made = answer-made (table entry) (a .k) (a .a) (a .b) (a .c) (sound (c .before .before .before .before .before))
+    let out = a .lengths in
+    let made = answer-made (table entry) (a .k) (out .leaves) (out .arrives) (out .bears) (sound (c .before .before .before .before .before))
     (sym (large-told (c .before .before .before .before)) ∙ c .before .before .before .if1 .left) (sym (short-told (c .before .before)) ∙ c .before .if2 .left) in
     rw (c .number-of .ensures, c .before .before .before .before .before .level-count .ensures) made
 

@@ -33,7 +33,8 @@ fill-requires c κs =
     let a = c .before .before .before .before .before .before .before .before .before .before .before .before .before .before .args in
     let told = c .before .before .before .before .before .answer .given in
     ready (a .n) (a .start) (a .k) (c .before .before .before .level-count .result) (a .from .now) (a .to .now) (a .marks .now) (a .leaves .now) (a .arrives .now) (a .bears .now)
-    (told .0 .0) (told .0 .1 .0) (told .0 .1 .1 .0) (sym (told .1) ∙ c .before .before .before .before .before .before .before .foresee .ensures) (c .before .before .before .level-count .ensures)
+    (told .0 .0) (told .0 .1 .0) (told .0 .1 .1 .0) (sym (told .1) ∙ c .before .before .before .before .before .before .before .foresee .ensures)
+    (c .before .before .before .level-count .ensures)
 
 same-length : tie.Need-same-length
 same-length c = search needs

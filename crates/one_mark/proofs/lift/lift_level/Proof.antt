@@ -15,16 +15,16 @@ use Rattle.one_mark.proofs.lift.lift_level.Tie as tie
 
 -- the first i edges are written, and the outputs are as long as they were
 abbrev Inv-loop : tie.InvT-loop
-Inv-loop state level shape to marks at leaves₀ arrives₀ bears₀ k leaving i₀ leaves arrives bears i =
+Inv-loop rung shape to marks at leaves₀ arrives₀ bears₀ k leaving i₀ leaves arrives bears i =
     (i ≤ length to)
-    × Wrote at (cells (λ e. number (shape .k) state level) 0 i)
-    (cells (λ e. number (shape .k) (getD to e 0) (landing (shape .k) (getD marks e 0) level)) 0 i)
-    (cells (λ e. bearing (shape .k) (getD marks e 0) level) 0 i)
+    × Wrote at (cells (λ e. number (shape .k) (rung .state) (rung .level)) 0 i)
+    (cells (λ e. number (shape .k) (getD to e 0) (landing (shape .k) (getD marks e 0) (rung .level))) 0 i)
+    (cells (λ e. bearing (shape .k) (getD marks e 0) (rung .level)) 0 i)
     leaves₀ arrives₀ bears₀ leaves arrives bears
     × Kept leaves₀ arrives₀ bears₀ leaves arrives bears
 
 abbrev μ-loop : tie.MeasureT-loop
-μ-loop state level shape to marks at leaves₀ arrives₀ bears₀ k leaving i₀ leaves arrives bears i = length to - i
+μ-loop rung shape to marks at leaves₀ arrives₀ bears₀ k leaving i₀ leaves arrives bears i = length to - i
 
 number-of-requires : tie.Need-number-of-requires Inv-loop μ-loop
 number-of-requires c κs = search needs
@@ -55,7 +55,7 @@ number-of-requires-2 c κs =
       entry .pre .0,
       (
         entry .pre .1 .1 .0 .ends i (c .before .before .before .loop-test .taken),
-        omega (arith, c .before .land .ensures .0, landing-below (entry .args .shape .k) (getD (entry .args .marks .now) i 0) (entry .args .level)),
+        omega (arith, c .before .land .ensures .0, landing-below (entry .args .shape .k) (getD (entry .args .marks .now) i 0) (entry .args .rung .level)),
       ),
     )
 

@@ -25,9 +25,11 @@ loop-holds c = search needs
 
 lift-level-requires : tie.Need-lift-level-requires Inv-loop μ-loop
 lift-level-requires c κs =
-    let pre = c .before .before .before .before .before .before .before .before .before .before .pre in
-    let inv = c .before .before .before .before .loop .inv in
-    let low : c .before .before .before .before .loop .level < c .before .before .before .before .before .before .before .before .before .before .args .shape .levels = omega arith in
+    let at-loop = c .before .before .before .before in
+    let at-entry = at-loop .before .before .before .before .before .before in
+    let pre = at-entry .pre in
+    let inv = at-loop .loop .inv in
+    let low : at-loop .loop .level < at-entry .args .shape .levels = omega arith in
     (pre .0, (low, (pre .1 .0, level-room _ _ _ _ _ (pre .1 .1) (inv .3) low (inv .1))))
 
 add-level : tie.Need-add-level Inv-loop μ-loop

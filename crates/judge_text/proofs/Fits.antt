@@ -22,7 +22,7 @@ use Rattle.job_text.specs.Job.{mostJobEdges, Job}
 use Rattle.job_text.specs.Printed.{answerText, mostPrinted}
 use Rattle.job_text.proofs.Room.{enough}
 use Rattle.judging.specs.Answer.{Given, Named, ByCause}
-use Rattle.judge_text.specs.Told.{tableOf, lentRoom, refusedText}
+use Rattle.judge_text.specs.Replied.{jobTable, lentRoom, refusedText}
 use Rattle.judge_text.proofs.Limits.{Limited}
 use Rattle.judge_text.proofs.Lent.{permitted}
 
@@ -98,21 +98,21 @@ module _ (t : Table) (c : Acceptance) (needs : List ℕ) (few : t .edges ≤ mos
 
 -- what the judge answers on a job, lent so much room
 module _ (j : Job) (L : Limited j) (room room' scratch scratch' : List ℕ) (is-room : room ≡ replicate lentRoom 0) where
-  few : tableOf j .edges ≤ mostJobEdges
+  few : jobTable j .edges ≤ mostJobEdges
   few = omega (arith, L .edges, length-map (j .edges) (λ (e : Edge). e .from))
 
   long : length room ≤ lentRoom
   long = omega (arith, ap length is-room, length-replicate {A = ℕ} lentRoom 0)
 
-  cause-slight : (f : Finding) (v : Verdict) → refusal (tableOf j) (j .condition) (j .needs) ≡ f
-      → ByCause f (tableOf j) (j .condition) (j .needs) room room' scratch scratch' v → Slight v room'
+  cause-slight : (f : Finding) (v : Verdict) → refusal (jobTable j) (j .condition) (j .needs) ≡ f
+      → ByCause f (jobTable j) (j .condition) (j .needs) room room' scratch scratch' v → Slight v room'
   cause-slight Sound v e G =
-      given-slight (tableOf j) (j .condition) (j .needs) few long v (permitted j e) G
+      given-slight (jobTable j) (j .condition) (j .needs) few long v (permitted j e) G
   cause-slight (Refused number place) v e K =
-      let row = refused-row (tableOf j) (j .condition) (j .needs) number place e in
+      let row = refused-row (jobTable j) (j .condition) (j .needs) number place e in
       let place-few : place < 2 ^ 32 = below number 5 (λ l. omega (arith, row .whole (omega arith))) (λ l. omega (arith, row .edge l, few)) in
       rw (K .says, K .room-kept) (slight-refused number place room (omega (arith, row .most)) place-few long (rw is-room (small-zeros lentRoom)))
 
-  pub answer-fits : (v : Verdict) → ByCause (refusal (tableOf j) (j .condition) (j .needs)) (tableOf j) (j .condition) (j .needs) room room' scratch scratch' v
+  pub answer-fits : (v : Verdict) → ByCause (refusal (jobTable j) (j .condition) (j .needs)) (jobTable j) (j .condition) (j .needs) room room' scratch scratch' v
       → length (answerText v (j .condition) room') ≤ mostPrinted
-  answer-fits v B = slight-short v (j .condition) room' (cause-slight (refusal (tableOf j) (j .condition) (j .needs)) v refl B)
+  answer-fits v B = slight-short v (j .condition) room' (cause-slight (refusal (jobTable j) (j .condition) (j .needs)) v refl B)

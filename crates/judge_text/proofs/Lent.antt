@@ -23,7 +23,7 @@ use Rattle.table.proofs.Sound.{either-false, used-few, sound-fit}
 use Rattle.job_text.specs.Value.{Edge}
 use Rattle.job_text.specs.Job.{Job}
 use Rattle.judging.specs.Answer.{largest, rank, roomNeeded, scratchNeeded, further, judgeRefusal, ByCause, Answers}
-use Rattle.judge_text.specs.Told.{listed, tableOf, lentRoom, lentScratch}
+use Rattle.judge_text.specs.Replied.{edgeCells, jobTable, lentRoom, lentScratch}
 use Rattle.judge_text.proofs.Limits.{Limited}
 
 -- ---- r is at most 32: marks are dealt out in order, so no need is above the marks in all
@@ -63,40 +63,40 @@ rank-few (Rabin p) needs w = largest-least needs width each
 -- ---- what a job needs
 
 -- a job that rows 1 to 7 let pass has a permitted condition
-pub permitted : (j : Job) → refusal (tableOf j) (j .condition) (j .needs) ≡ Sound → wrongCondition (j .condition) (j .needs) ≡ false
-permitted j e = sound-fit (j .states) (j .start) (listed (λ e. e .from) j) (listed (λ e. e .to) j) (listed (λ e. e .marks) j) (j .condition) (j .needs) e .condition
+pub permitted : (j : Job) → refusal (jobTable j) (j .condition) (j .needs) ≡ Sound → wrongCondition (j .condition) (j .needs) ≡ false
+permitted j e = sound-fit (j .states) (j .start) (edgeCells (λ e. e .from) j) (edgeCells (λ e. e .to) j) (edgeCells (λ e. e .marks) j) (j .condition) (j .needs) e .condition
 
 module _ (j : Job) (L : Limited j) where
-  scratch-enough : scratchNeeded (tableOf j) ≤ lentScratch
+  scratch-enough : scratchNeeded (jobTable j) ≤ lentScratch
   scratch-enough = omega (arith, L .states, L .edges, length-map (j .edges) (λ (e : Edge). e .from))
 
-  room-enough : rank (j .condition) (j .needs) ≤ width → roomNeeded (tableOf j) (j .condition) (j .needs) ≤ lentRoom
+  room-enough : rank (j .condition) (j .needs) ≤ width → roomNeeded (jobTable j) (j .condition) (j .needs) ≤ lentRoom
   room-enough r =
       let few : rank (j .condition) (j .needs) + 2 ≤ 34 = omega arith in
       omega (arith, mul-le-mul few (L .states))
 
   -- rows 8 and 9 add nothing
-  passed : (f : Finding) → (f ≡ Sound → roomNeeded (tableOf j) (j .condition) (j .needs) ≤ lentRoom)
+  passed : (f : Finding) → (f ≡ Sound → roomNeeded (jobTable j) (j .condition) (j .needs) ≤ lentRoom)
       → further f
-      (cond (ltb lentRoom (roomNeeded (tableOf j) (j .condition) (j .needs))) (Refused 8 0)
-      (cond (ltb lentScratch (scratchNeeded (tableOf j))) (Refused 9 0)
+      (cond (ltb lentRoom (roomNeeded (jobTable j) (j .condition) (j .needs))) (Refused 8 0)
+      (cond (ltb lentScratch (scratchNeeded (jobTable j))) (Refused 9 0)
       Sound))
       ≡ f
-  passed Sound r = rw (le-ltb lentRoom (roomNeeded (tableOf j) (j .condition) (j .needs)) (r refl), le-ltb lentScratch (scratchNeeded (tableOf j)) scratch-enough)
+  passed Sound r = rw (le-ltb lentRoom (roomNeeded (jobTable j) (j .condition) (j .needs)) (r refl), le-ltb lentScratch (scratchNeeded (jobTable j)) scratch-enough)
   passed (Refused number place) r = refl
 
   -- the first cause is one of rows 1 to 7
-  pub enough : judgeRefusal (tableOf j) (j .condition) (j .needs) lentRoom lentScratch ≡ refusal (tableOf j) (j .condition) (j .needs)
+  pub enough : judgeRefusal (jobTable j) (j .condition) (j .needs) lentRoom lentScratch ≡ refusal (jobTable j) (j .condition) (j .needs)
   enough =
-      passed (refusal (tableOf j) (j .condition) (j .needs))
+      passed (refusal (jobTable j) (j .condition) (j .needs))
       (λ e. room-enough (rank-few (j .condition) (j .needs) (permitted j e)))
 
 -- what the judge's contract says of a job by a first cause
 abbrev pub By : Job → List ℕ → List ℕ → Verdict → Finding → Type 0
-By j room scratch v f = ByCause f (tableOf j) (j .condition) (j .needs) (replicate lentRoom 0) room (replicate lentScratch 0) scratch v
+By j room scratch v f = ByCause f (jobTable j) (j .condition) (j .needs) (replicate lentRoom 0) room (replicate lentScratch 0) scratch v
 
 -- .. and so by rows 1 to 7
-pub by-rows : (j : Job) (room scratch : List ℕ) (a : Answer) → Answers (tableOf j) (j .condition) (j .needs) (replicate lentRoom 0) room (replicate lentScratch 0) scratch a
-    → judgeRefusal (tableOf j) (j .condition) (j .needs) lentRoom lentScratch ≡ refusal (tableOf j) (j .condition) (j .needs)
-    → By j room scratch (a .verdict) (refusal (tableOf j) (j .condition) (j .needs))
+pub by-rows : (j : Job) (room scratch : List ℕ) (a : Answer) → Answers (jobTable j) (j .condition) (j .needs) (replicate lentRoom 0) room (replicate lentScratch 0) scratch a
+    → judgeRefusal (jobTable j) (j .condition) (j .needs) lentRoom lentScratch ≡ refusal (jobTable j) (j .condition) (j .needs)
+    → By j room scratch (a .verdict) (refusal (jobTable j) (j .condition) (j .needs))
 by-rows j room scratch a A e = subst (By j room scratch (a .verdict)) e A

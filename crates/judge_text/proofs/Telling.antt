@@ -20,7 +20,7 @@ use Rattle.job_text.specs.Job.{mostJobEdges, Job, Outcome, job, fault, readJob}
 use Rattle.job_text.specs.Reading.{readingOf, cellsOf, Read}
 use Rattle.job_text.specs.Printed.{answerText, mostPrinted, Prints}
 use Rattle.judging.specs.Answer.{Answers}
-use Rattle.judge_text.specs.Told.{tableOf, lentRoom, lentScratch, refusedText, Says, Holds}
+use Rattle.judge_text.specs.Replied.{jobTable, lentRoom, lentScratch, refusedText, ReplyTo, Holds}
 use Rattle.judge_text.proofs.Limits.{Bounded, read-bounded}
 use Rattle.judge_text.proofs.Lent.{enough, by-rows}
 use Rattle.judge_text.proofs.Fits.{answer-fits}
@@ -44,7 +44,7 @@ edges-within f (fault number place) before e g = omega (arith, ap (λ (x : Readi
 
 -- ---- what the reader refuses
 
-refused-by : (o : Outcome) (r : Reading) (number place : ℕ) → r ≡ readingOf o → r .finding ≡ Refused number place → Says o (refusedText number place)
+refused-by : (o : Outcome) (r : Reading) (number place : ℕ) → r ≡ readingOf o → r .finding ≡ Refused number place → ReplyTo o (refusedText number place)
 refused-by (job j) r number place e f = absurd (unlike (sym f ∙ ap (λ (x : Reading). x .finding) e))
 refused-by (fault x p) r number place e f = let q : Refused number place ≡ Refused x p = sym f ∙ ap (λ (x : Reading). x .finding) e in same-text q
   where
@@ -63,7 +63,7 @@ module _ {text b b' b'' from to marks : List ℕ} {r : Reading} (R : Read text b
   pub sets-reach : r .edges ≤ length marks
   sets-reach = edges-within (λ e. e .marks) (readJob text) b'' (R .reading) (R .sets)
 
-  pub refused-so : {number place : ℕ} → r .finding ≡ Refused number place → Says (readJob text) (refusedText number place)
+  pub refused-so : {number place : ℕ} → r .finding ≡ Refused number place → ReplyTo (readJob text) (refusedText number place)
   refused-so {number} {place} f = refused-by (readJob text) r number place (R .reading) f
 
 -- ---- what the judge answers
@@ -78,14 +78,14 @@ module _ (r : Reading) (from to marks room scratch : List ℕ) (a : Answer) wher
   module _ (j : Job) (e : r ≡ readingOf (job j)) (f : from ≡ padTo mostJobEdges (map (λ (e : Edge). e .from) (j .edges)))
       (g : to ≡ padTo mostJobEdges (map (λ (e : Edge). e .to) (j .edges))) (h : marks ≡ padTo mostJobEdges (map (λ (e : Edge). e .marks) (j .edges))) where
     -- .. is its contract at the job's table
-    on-job : Lent → Answers (tableOf j) (j .condition) (j .needs) (replicate lentRoom 0) room (replicate lentScratch 0) scratch a
+    on-job : Lent → Answers (jobTable j) (j .condition) (j .needs) (replicate lentRoom 0) room (replicate lentScratch 0) scratch a
     on-job A =
         rw (part-is (λ (e : Edge). e .from) (j .edges), part-is (λ (e : Edge). e .to) (j .edges), part-is (λ (e : Edge). e .marks) (j .edges)) at
         (rw (e, f, g, h) at A)
 
   judged-by : (o : Outcome) (b b' b'' : List ℕ) → Bounded o → r ≡ readingOf o → r .finding ≡ Sound → from ≡ cellsOf (λ e. e .from) o b
       → to ≡ cellsOf (λ e. e .to) o b' → marks ≡ cellsOf (λ e. e .marks) o b'' → Lent
-      → Says o (answerText (a .verdict) (r .condition) room) × (length (answerText (a .verdict) (r .condition) room) ≤ mostPrinted)
+      → ReplyTo o (answerText (a .verdict) (r .condition) room) × (length (answerText (a .verdict) (r .condition) room) ≤ mostPrinted)
   judged-by (fault number place) b b' b'' B e s f g h A = absurd (unlike (sym (ap (λ (x : Reading). x .finding) e) ∙ s))
   judged-by (job j) b b' b'' B e s f g h A =
       let allowed = on-job j e f g h A in
@@ -97,7 +97,7 @@ module _ (r : Reading) (from to marks room scratch : List ℕ) (a : Answer) wher
 
   -- for any text that is read
   pub judged-so : {text b b' b'' : List ℕ} → Read text b b' b'' from to marks r → r .finding ≡ Sound → Lent
-      → Says (readJob text) (answerText (a .verdict) (r .condition) room) × (length (answerText (a .verdict) (r .condition) room) ≤ mostPrinted)
+      → ReplyTo (readJob text) (answerText (a .verdict) (r .condition) room) × (length (answerText (a .verdict) (r .condition) room) ≤ mostPrinted)
   judged-so {text} {b} {b'} {b''} R s A = judged-by (readJob text) b b' b'' (read-bounded text) (R .reading) s (R .froms) (R .tos) (R .sets) A
 
 -- ---- what is printed

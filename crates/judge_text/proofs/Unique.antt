@@ -12,7 +12,7 @@ use Rattle.table.specs.declared.Verdict.the-variants.{Run, Empty, Refused}
 use Rattle.job_text.specs.Job.{Outcome, job, fault, readJob}
 use Rattle.job_text.specs.Printed.{topText, answerText}
 use Rattle.judging.proofs.Unique.{Alike, answers-alike}
-use Rattle.judge_text.specs.Told.{tableOf, lentRoom, lentScratch, Says, Holds, Told}
+use Rattle.judge_text.specs.Replied.{jobTable, lentRoom, lentScratch, ReplyTo, Holds, Replied}
 use Rattle.judge_text.specs.Reply.{TwoRuns}
 
 -- by the verdicts
@@ -39,12 +39,12 @@ module _ (c : Acceptance) {room room' scratch scratch' : List ℕ} where
   same-text (Refused x e) (Refused y f) A = inl (rw (A .number, A .place))
 
 -- by what the text says
-same-printed : (o : Outcome) (printed printed' : List ℕ) → Says o printed → Says o printed' → (printed ≡ printed') ⊎ TwoRuns printed printed'
+same-printed : (o : Outcome) (printed printed' : List ℕ) → ReplyTo o printed → ReplyTo o printed' → (printed ≡ printed') ⊎ TwoRuns printed printed'
 same-printed (fault number place) printed printed' s s' = inl (s ∙ sym s')
 same-printed (job j) printed printed' J K =
     rw (J .is, K .is)
     (same-text (j .condition) (J .answer .verdict) (K .answer .verdict)
-    (answers-alike (tableOf j) (j .condition) (j .needs) (replicate lentRoom 0) (replicate lentScratch 0) (J .answer) (K .answer) (J .allowed) (K .allowed)))
+    (answers-alike (jobTable j) (j .condition) (j .needs) (replicate lentRoom 0) (replicate lentScratch 0) (J .answer) (K .answer) (J .allowed) (K .allowed)))
 
 same-cells : {printed printed' out out' : List ℕ} {size size' : ℕ} → printed ≡ printed' → Holds printed out size → Holds printed' out' size' → (out ≡ out') × (size ≡ size')
 same-cells {printed} {printed'} {out} {out'} {size} {size'} e H K =
@@ -52,7 +52,7 @@ same-cells {printed} {printed'} {out} {out'} {size} {size'} e H K =
     (H .cells ∙ rw (e, n) (sym (K .cells)), n)
 
 -- one text, one reply
-pub one-reply : (text out out' : List ℕ) (size size' : ℕ) (T : Told text out size) (U : Told text out' size')
+pub one-reply : (text out out' : List ℕ) (size size' : ℕ) (T : Replied text out size) (U : Replied text out' size')
     → ((out ≡ out') × (size ≡ size')) ⊎ TwoRuns (T .printed) (U .printed)
 one-reply text out out' size size' T U = by (same-printed (readJob text) (T .printed) (U .printed) (T .says) (U .says))
   where

@@ -13,33 +13,33 @@ use Rattle.table.specs.Refusal.{refusal}
 use Rattle.job_text.specs.Job.{Job, Outcome, job, fault, readJob}
 use Rattle.job_text.specs.Printed.{topText, bottomText, answerText}
 use Rattle.judging.specs.Answer.{Decided}
-use Rattle.judge_text.specs.Told.{tableOf, refusedText}
+use Rattle.judge_text.specs.Replied.{jobTable, refusedText}
 
 -- "20 comes first", then the first faulty line's 21, 22 or 23; "then rows 1 to 9", of which 8 and 9 never come out
 abbrev pub firstCause : Outcome → Finding
 firstCause (fault number place) = Refused number place
-firstCause (job j) = refusal (tableOf j) (j .condition) (j .needs)
+firstCause (job j) = refusal (jobTable j) (j .condition) (j .needs)
 
 -- a row of the table of causes that a text can come to: 1 to 7, 20 to 23
-abbrev pub Row : ℕ → Type 0
-Row number = ((1 ≤ number) × (number ≤ 7)) ⊎ ((20 ≤ number) × (number ≤ 23))
+abbrev pub TextRow : ℕ → Type 0
+TextRow number = ((1 ≤ number) × (number ≤ 7)) ⊎ ((20 ≤ number) × (number ≤ 23))
 
 -- one numbered refusal: that of the first cause, and no other
-pub record Refusal (text printed : List ℕ) : Type 0 where
+pub record RefusedFor (text printed : List ℕ) : Type 0 where
   pub number : ℕ
   pub place : ℕ
   pub cause : firstCause (readJob text) ≡ Refused number place
-  pub row : Row number
+  pub row : TextRow number
   pub is : printed ≡ refusedText number place
 
 -- an answer: the text says a job, no row refuses it, and the printed verdict is decided: a run with an accepted lasso, or empty, when no lasso is accepted
-pub record Answer (text printed : List ℕ) : Type 0 where
+pub record Answered (text printed : List ℕ) : Type 0 where
   pub asked : Job
   pub read : readJob text ≡ job asked
   pub sound : firstCause (job asked) ≡ Sound
   pub verdict : Verdict
   pub room : List ℕ
-  pub decided : Decided (tableOf asked) (asked .condition) (asked .needs) verdict room
+  pub decided : Decided (jobTable asked) (asked .condition) (asked .needs) verdict room
   pub is : printed ≡ answerText verdict (asked .condition) room
 
 -- two runs that differ in their lassos at most: the lines of verdict, code, place and pair are the same

@@ -1,5 +1,5 @@
 // From bytes to bytes: a job text in, the printed answer out, for every byte string (document 01, "The job text and the printed answer"). Reads by
-// `job_text`, judges by `judging`, prints by `job_text`. What a text is answered is in specs/Told.antt.
+// `job_text`, judges by `judging`, prints by `job_text`. What a text is answered is in specs/Replied.antt.
 use job_text::printer::Printed;
 use job_text::printer::print;
 use job_text::reader::read;
@@ -10,7 +10,7 @@ use table::Verdict;
 ghost use Prim.Native.Nat.{_≤_};
 ghost use lib.ListN.{length};
 ghost use Rattle.job_text.specs.Printed.{answerText, mostPrinted};
-ghost use Rattle.judge_text.specs.Told.{refusedText, Holds, Told};
+ghost use Rattle.judge_text.specs.Replied.{refusedText, Holds, Replied};
 
 // No printed answer is longer: at most 8,703 edge numbers of three digits with their commas, and what stands around them.
 pub const MOST_PRINTED: usize = 34932;
@@ -48,7 +48,7 @@ fn show_refused(number: u32, place: u32, out: &mut [u8; MOST_PRINTED]) -> usize
 
 // The printed answer to a text and zeros after it, in `out`; gives its length. For every text: what the reader refuses is told, what it reads is judged.
 pub fn judge_text(text: &[u8], out: &mut [u8; MOST_PRINTED]) -> usize
-    ensures { λ r. ⌜ Told (now (text .entry)) (now (out .exit)) r ⌝ }
+    ensures { λ r. ⌜ Replied (now (text .entry)) (now (out .exit)) r ⌝ }
 {
     let mut from = [0u32; 512];
     let mut to = [0u32; 512];

@@ -1,5 +1,5 @@
--- `answer` is safe: what `judge_text` prints lies within what it was lent (`told-within`). Assumes nothing.
-use Rattle.judge_text.proofs.Replies.{told-within}
+-- `answer` is safe: what `judge_text` prints lies within what it was lent (`replied-within`). Assumes nothing.
+use Rattle.judge_text.proofs.Replies.{replied-within}
 use borrow.Author.Needs.{needs}
 use Rattle.judge.proofs.answer.Statement.{statement}
 use Rattle.judge.proofs.answer.Tie as tie
@@ -14,7 +14,7 @@ part-write-all-start : tie.Need-part-write-all-start
 part-write-all-start c = search needs
 
 part-write-all-end : tie.Need-part-write-all-end
-part-write-all-end c = told-within (c .before .judge-text .ensures)
+part-write-all-end c = replied-within (c .before .judge-text .ensures)
 
 write-all-requires : tie.Need-write-all-requires
 write-all-requires c κs = search needs

@@ -17,12 +17,12 @@ use Rattle.judging.specs.Answer.{judgeRefusal, Answers}
 -- ---- what the judge is asked
 
 -- the numbers of a job's edges, in their order
-abbrev pub listed : (Edge → ℕ) → Job → List ℕ
-listed part j = map part (j .edges)
+abbrev pub edgeCells : (Edge → ℕ) → Job → List ℕ
+edgeCells part j = map part (j .edges)
 
 -- the table that a job says
-abbrev pub tableOf : Job → Table
-tableOf j = lent (j .states) (j .start) (listed (λ e. e .from) j) (listed (λ e. e .to) j) (listed (λ e. e .marks) j)
+abbrev pub jobTable : Job → Table
+jobTable j = lent (j .states) (j .start) (edgeCells (λ e. e .from) j) (edgeCells (λ e. e .to) j) (edgeCells (λ e. e .marks) j)
 
 -- "lasso room needed: (r+2)·n - 1 cells", for the most states of a job and the largest r that row 4 lets pass
 abbrev pub lentRoom : ℕ
@@ -40,18 +40,18 @@ refusedText number place = answerText (Refused number place) (Buchi 0) []
 
 -- a job's printed answer: there are an answer, a room and a scratch that the judge's contract allows for the job's table and condition, and the text is
 -- theirs. What is lent is enough: the first cause is one of rows 1 to 7, and rows 8 and 9 never come out
-pub record Judged (j : Job) (printed : List ℕ) : Type 0 where
+pub record JobReply (j : Job) (printed : List ℕ) : Type 0 where
   pub answer : Answer
   pub room : List ℕ
   pub scratch : List ℕ
-  pub allowed : Answers (tableOf j) (j .condition) (j .needs) (replicate lentRoom 0) room (replicate lentScratch 0) scratch answer
-  pub enough : judgeRefusal (tableOf j) (j .condition) (j .needs) lentRoom lentScratch ≡ refusal (tableOf j) (j .condition) (j .needs)
+  pub allowed : Answers (jobTable j) (j .condition) (j .needs) (replicate lentRoom 0) room (replicate lentScratch 0) scratch answer
+  pub enough : judgeRefusal (jobTable j) (j .condition) (j .needs) lentRoom lentScratch ≡ refusal (jobTable j) (j .condition) (j .needs)
   pub is : printed ≡ answerText (answer .verdict) (j .condition) room
 
 -- "20 comes first", 21, 22 and 23 line by line: what the reader refuses is printed as it is; "then rows 1 to 9": what it reads is judged
-abbrev pub Says : Outcome → List ℕ → Type 0
-Says (fault number place) printed = printed ≡ refusedText number place
-Says (job j) printed = Judged j printed
+abbrev pub ReplyTo : Outcome → List ℕ → Type 0
+ReplyTo (fault number place) printed = printed ≡ refusedText number place
+ReplyTo (job j) printed = JobReply j printed
 
 -- "a lent output has zeros from the end of what is written to its own end"
 pub record Holds (printed out : List ℕ) (size : ℕ) : Type 0 where
@@ -59,7 +59,7 @@ pub record Holds (printed out : List ℕ) (size : ℕ) : Type 0 where
   pub cells : out ≡ printed ++ replicate (mostPrinted - size) 0
 
 -- the whole promise, for every text: what the text is answered, and nothing else, stands in `out`, and `size` is how long it is
-pub record Told (text out : List ℕ) (size : ℕ) : Type 0 where
+pub record Replied (text out : List ℕ) (size : ℕ) : Type 0 where
   pub printed : List ℕ
-  pub says : Says (readJob text) printed
+  pub says : ReplyTo (readJob text) printed
   pub held : Holds printed out size

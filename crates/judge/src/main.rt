@@ -1,100 +1,69 @@
-// The judge program: reads a job text from standard input, judges it, prints the answer. Thin: the reader, the judge and the printer are proved
-// libraries, and everything that matters is there.
-use job_text::printer::Printed;
-use job_text::printer::print;
-use job_text::reader::Reading;
-use job_text::reader::read;
-use table::Acceptance;
-use table::Answer;
-use table::Finding;
-use table::Verdict;
+// The judge program: reads a job text from standard input and writes its printed answer to standard output. It only reads, calls `judge_text` and writes:
+// what is printed for a text is promised there. A read or a write that fails is told on standard error; a text that could not be read gets no answer.
+use judge_text::MOST_PRINTED;
+use judge_text::judge_text;
+use libc::STDIN_FILENO;
+use libc::STDOUT_FILENO;
+ghost use Prim.Native.Nat.{_≤_, _-_};
+ghost use lib.ListN.{length};
+ghost use Rattle.judge.specs.Input.{Within};
 
-// What is left of the input is read to its end, in parts; a text that long is refused whatever it says.
-fn drain() {
-    let mut part = io::large_buffer();
-    let mut turns: u32 = 0;
-    while turns < 4294967295 {
-        if io::read_full(0, &mut part) == 0 {
-            return;
+// One byte more than a text may have: with so many it is refused whatever follows, and nothing more is read.
+const MOST_READ: usize = 12289;
+
+// What reading comes to: so many bytes, none at the end of the input; or a read that failed.
+enum Input {
+    Bytes { count: usize },
+    Failed,
+}
+
+// One read, into the text from `at` on.
+fn read_more(text: &mut [u8], at: usize) -> Input
+    requires { ⌜ at ≤ length (now text) ⌝ }
+    ensures { λ r. ⌜ Within (length (now (text .entry)) - at) r ⌝ }
+{
+    let got = libc::read(STDIN_FILENO, &mut text[at..]);
+    if got < 0 {
+        return Input::Failed;
+    }
+    Input::Bytes {
+        count: io::count(got, &text[at..]),
+    }
+}
+
+// Reads until the text is full or the input ends.
+fn read_input(text: &mut [u8]) -> Input
+    ensures { λ r. ⌜ Within (length (now (text .entry))) r ⌝ }
+{
+    let mut at: usize = 0;
+    while at < text.len() {
+        let more = read_more(text, at);
+        let Input::Bytes { count } = more else {
+            return Input::Failed;
+        };
+        if count == 0 {
+            return Input::Bytes { count: at };
         }
-        turns += 1;
+        at += count;
     }
+    Input::Bytes { count: at }
 }
 
-// Writes the printed answer.
-fn show(answer: Answer, condition: Acceptance, room: &[u32]) {
-    let mut out = [0u8; 40000];
-    let printed = print(answer, condition, room, &mut out);
-    if let Printed::Text { length } = printed {
-        if length <= 40000 {
-            io::write_all(1, &out[0..length]);
-        }
+// Judges a text and writes the answer.
+fn answer(text: &[u8]) {
+    let mut out = [0u8; MOST_PRINTED];
+    let size = judge_text(text, &mut out);
+    if !io::write_all(STDOUT_FILENO, &out[0..size]) {
+        os::fail(b"judge: the answer could not be written");
     }
-}
-
-fn show_refused(number: u32, place: u32, condition: Acceptance) {
-    let room = [0u32; 1];
-    let refused = Answer {
-        verdict: Verdict::Refused { number, place },
-    };
-    show(refused, condition, &room);
-}
-
-// Judges the first edges of the tables. The room is what 256 states and 32 marks need, the scratch what 256 states and 512 edges need.
-fn judge_edges(job: Reading, from: &[u32], to: &[u32], marks: &[u32]) {
-    let m = job.edges as usize;
-    if from.len() < m {
-        return;
-    }
-    if to.len() < m {
-        return;
-    }
-    if marks.len() < m {
-        return;
-    }
-    let mut room = [0u32; 8703];
-    let mut scratch = [0u32; 4160];
-    let condition = job.condition;
-    let needs = job.needs;
-    let answer = judging::judge(
-        job.states,
-        job.start,
-        &from[0..m],
-        &to[0..m],
-        &marks[0..m],
-        condition,
-        needs,
-        &mut room,
-        &mut scratch,
-    );
-    show(answer, condition, &room);
-}
-
-// The tables that were read, as slices.
-fn judge_job(job: Reading, from: &[u32; 512], to: &[u32; 512], marks: &[u32; 512]) {
-    judge_edges(job, from, to, marks);
-}
-
-// Reads, judges, shows.
-fn judge_text(text: &[u8]) {
-    let mut from = [0u32; 512];
-    let mut to = [0u32; 512];
-    let mut marks = [0u32; 512];
-    let job = read(text, &mut from, &mut to, &mut marks);
-    let condition = job.condition;
-    let finding = job.finding;
-    if let Finding::Refused { number, place } = finding {
-        show_refused(number, place, condition);
-        return;
-    }
-    judge_job(job, &from, &to, &marks);
 }
 
 fn main() {
-    let mut text = [0u8; 12289];
-    let got = io::read_full(0, &mut text);
-    if got == 12289 {
-        drain();
-    }
-    judge_text(&text[0..got]);
+    let mut text = [0u8; MOST_READ];
+    let input = read_input(&mut text);
+    let Input::Bytes { count } = input else {
+        os::fail(b"judge: the job could not be read");
+        return;
+    };
+    answer(&text[0..count]);
 }

@@ -1,0 +1,2 @@
+-- Input: what reading comes to
+pub mod Input

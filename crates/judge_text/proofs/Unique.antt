@@ -1,0 +1,61 @@
+-- Two results that the contract allows for one text are the same, the lasso's own edges and lengths aside: then both are runs, with the same lines of
+-- verdict, code, place and pair (docs/DECISIONS.md, "Which lasso", gives the grounds). Assumes nothing.
+use mathlib.Core.Path.{_≡_, refl, sym, ap, _∙_}
+use mathlib.Core.List.{List}
+use mathlib.Core.Logic.{_⊎_, inl, inr}
+use Prim.Native.Nat.{ℕ}
+use native.Mathlib.Omega.{arith}
+use lib.ListN.{length, take, drop, replicate}
+use Rattle.table.specs.declared.Acceptance.{Acceptance}
+use Rattle.table.specs.declared.Verdict.{Verdict}
+use Rattle.table.specs.declared.Verdict.the-variants.{Run, Empty, Refused}
+use Rattle.job_text.specs.Job.{Outcome, job, fault, readJob}
+use Rattle.job_text.specs.Printed.{topText, answerText}
+use Rattle.judging.proofs.Unique.{Alike, answers-alike}
+use Rattle.judge_text.specs.Replied.{jobTable, lentRoom, lentScratch, ReplyTo, Holds, Replied}
+use Rattle.judge_text.specs.Reply.{TwoRuns}
+
+-- by the verdicts
+module _ (c : Acceptance) {room room' scratch scratch' : List ℕ} where
+  same-text : (v w : Verdict) → Alike v w room room' scratch scratch' → (answerText v c room ≡ answerText w c room') ⊎ TwoRuns (answerText v c room) (answerText w c room')
+  unfolding answerText topText
+  same-text (Run p q i) (Run p' q' i') A = inr (record {
+    condition = c;
+    pair = i;
+    prefix = take p room;
+    cycle = take q (drop p room);
+    prefix' = take p' room';
+    cycle' = take q' (drop p' room');
+    first = refl;
+    second = rw (A .pair);
+  })
+  same-text (Run p q i) Empty A = absurd (omega (arith, A .kind))
+  same-text (Run p q i) (Refused x e) A = absurd (omega (arith, A .kind))
+  same-text Empty (Run p q i) A = absurd (omega (arith, A .kind))
+  same-text Empty Empty A = inl refl
+  same-text Empty (Refused x e) A = absurd (omega (arith, A .kind))
+  same-text (Refused x e) (Run p q i) A = absurd (omega (arith, A .kind))
+  same-text (Refused x e) Empty A = absurd (omega (arith, A .kind))
+  same-text (Refused x e) (Refused y f) A = inl (rw (A .number, A .place))
+
+-- by what the text says
+same-printed : (o : Outcome) (printed printed' : List ℕ) → ReplyTo o printed → ReplyTo o printed' → (printed ≡ printed') ⊎ TwoRuns printed printed'
+same-printed (fault number place) printed printed' s s' = inl (s ∙ sym s')
+same-printed (job j) printed printed' J K =
+    rw (J .is, K .is)
+    (same-text (j .condition) (J .answer .verdict) (K .answer .verdict)
+    (answers-alike (jobTable j) (j .condition) (j .needs) (replicate lentRoom 0) (replicate lentScratch 0) (J .answer) (K .answer) (J .allowed) (K .allowed)))
+
+same-cells : {printed printed' out out' : List ℕ} {size size' : ℕ} → printed ≡ printed' → Holds printed out size → Holds printed' out' size' → (out ≡ out') × (size ≡ size')
+same-cells {printed} {printed'} {out} {out'} {size} {size'} e H K =
+    let n : size ≡ size' = H .all ∙ ap length e ∙ sym (K .all) in
+    (H .cells ∙ rw (e, n) (sym (K .cells)), n)
+
+-- one text, one reply
+pub one-reply : (text out out' : List ℕ) (size size' : ℕ) (T : Replied text out size) (U : Replied text out' size')
+    → ((out ≡ out') × (size ≡ size')) ⊎ TwoRuns (T .printed) (U .printed)
+one-reply text out out' size size' T U = by (same-printed (readJob text) (T .printed) (U .printed) (T .says) (U .says))
+  where
+    by : (T .printed ≡ U .printed) ⊎ TwoRuns (T .printed) (U .printed) → ((out ≡ out') × (size ≡ size')) ⊎ TwoRuns (T .printed) (U .printed)
+    by (inl e) = inl (same-cells e (T .held) (U .held))
+    by (inr r) = inr r

@@ -1,0 +1,4 @@
+-- Replied: what `judge_text` gives for a text, the whole promise from bytes to bytes
+pub mod Replied
+-- Reply: what that comes to: an answer or one numbered refusal, and what two results share
+pub mod Reply

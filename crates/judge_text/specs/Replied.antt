@@ -1,0 +1,65 @@
+-- From bytes to bytes: what is printed for a text, every text (docs/RULES.md, "The job text and the printed answer" and "What comes back"). Assumes nothing.
+use mathlib.Core.Path.{_≡_}
+use mathlib.Core.List.{List, [], _++_, map}
+use Prim.Native.Nat.{ℕ, _+_, _-_, _*_}
+use lib.ListN.{length, replicate}
+use Rattle.marks.specs.Mark.{width}
+use Rattle.table.specs.declared.Acceptance.the-variants.{Buchi}
+use Rattle.table.specs.declared.Answer.{Answer}
+use Rattle.table.specs.declared.Verdict.the-variants.{Refused}
+use Rattle.table.specs.Table.{Table, lent}
+use Rattle.table.specs.Refusal.{refusal}
+use Rattle.job_text.specs.Value.{Edge}
+use Rattle.job_text.specs.Job.{mostJobStates, mostJobEdges, Job, Outcome, job, fault, readJob}
+use Rattle.job_text.specs.Printed.{answerText, mostPrinted}
+use Rattle.judging.specs.Answer.{judgeRefusal, Answers}
+
+-- ---- what the judge is asked
+
+-- the numbers of a job's edges, in their order
+abbrev pub edgeCells : (Edge → ℕ) → Job → List ℕ
+edgeCells part j = map part (j .edges)
+
+-- the table that a job says
+abbrev pub jobTable : Job → Table
+jobTable j = lent (j .states) (j .start) (edgeCells (λ e. e .from) j) (edgeCells (λ e. e .to) j) (edgeCells (λ e. e .marks) j)
+
+-- "lasso room needed: (r+2)·n - 1 cells", for the most states of a job and the largest r that row 4 lets pass
+abbrev pub lentRoom : ℕ
+lentRoom = (width + 2) * mostJobStates - 1
+
+-- "scratch needed: 8n + 4m + 64 words", for the most states and edges of a job
+abbrev pub lentScratch : ℕ
+lentScratch = 8 * mostJobStates + 4 * mostJobEdges + 64
+
+-- ---- what is printed
+
+-- a refusal: number and place, no pair, no edges
+abbrev pub refusedText : ℕ → ℕ → List ℕ
+refusedText number place = answerText (Refused number place) (Buchi 0) []
+
+-- a job's printed answer: there are an answer, a room and a scratch that the judge's contract allows for the job's table and condition, and the text is
+-- theirs. What is lent is enough: the first cause is one of rows 1 to 7, and rows 8 and 9 never come out
+pub record JobReply (j : Job) (printed : List ℕ) : Type 0 where
+  pub answer : Answer
+  pub room : List ℕ
+  pub scratch : List ℕ
+  pub allowed : Answers (jobTable j) (j .condition) (j .needs) (replicate lentRoom 0) room (replicate lentScratch 0) scratch answer
+  pub enough : judgeRefusal (jobTable j) (j .condition) (j .needs) lentRoom lentScratch ≡ refusal (jobTable j) (j .condition) (j .needs)
+  pub is : printed ≡ answerText (answer .verdict) (j .condition) room
+
+-- "20 comes first", 21, 22 and 23 line by line: what the reader refuses is printed as it is; "then rows 1 to 9": what it reads is judged
+abbrev pub ReplyTo : Outcome → List ℕ → Type 0
+ReplyTo (fault number place) printed = printed ≡ refusedText number place
+ReplyTo (job j) printed = JobReply j printed
+
+-- "a lent output has zeros from the end of what is written to its own end"
+pub record Holds (printed out : List ℕ) (size : ℕ) : Type 0 where
+  pub all : size ≡ length printed
+  pub cells : out ≡ printed ++ replicate (mostPrinted - size) 0
+
+-- the whole promise, for every text: what the text is answered, and nothing else, stands in `out`, and `size` is how long it is
+pub record Replied (text out : List ℕ) (size : ℕ) : Type 0 where
+  pub printed : List ℕ
+  pub says : ReplyTo (readJob text) printed
+  pub held : Holds printed out size

@@ -1,0 +1,54 @@
+-- What the promise comes to: every text gets an answer or one numbered refusal (docs/RULES.md, "What comes back" and "The job text and the printed answer").
+-- `Replies.answered-or-refused` and `Unique.one-reply`, in proofs/, say that it does. Assumes nothing.
+use mathlib.Core.Path.{_≡_}
+use mathlib.Core.List.{List, _++_}
+use mathlib.Core.Logic.{_⊎_}
+use Prim.Native.Nat.{ℕ, _≤_}
+use Rattle.table.specs.declared.Acceptance.{Acceptance}
+use Rattle.table.specs.declared.Finding.{Finding}
+use Rattle.table.specs.declared.Finding.the-variants.{Sound, Refused}
+use Rattle.table.specs.declared.Verdict.{Verdict}
+use Rattle.table.specs.declared.Verdict.the-variants.{Run}
+use Rattle.table.specs.Refusal.{refusal}
+use Rattle.job_text.specs.Job.{Job, Outcome, job, fault, readJob}
+use Rattle.job_text.specs.Printed.{topText, bottomText, answerText}
+use Rattle.judging.specs.Answer.{Decided}
+use Rattle.judge_text.specs.Replied.{jobTable, refusedText}
+
+-- "20 comes first", then the first faulty line's 21, 22 or 23; "then rows 1 to 9", of which 8 and 9 never come out
+abbrev pub firstCause : Outcome → Finding
+firstCause (fault number place) = Refused number place
+firstCause (job j) = refusal (jobTable j) (j .condition) (j .needs)
+
+-- a row of the table of causes that a text can come to: 1 to 7, 20 to 23
+abbrev pub TextRow : ℕ → Type 0
+TextRow number = ((1 ≤ number) × (number ≤ 7)) ⊎ ((20 ≤ number) × (number ≤ 23))
+
+-- one numbered refusal: that of the first cause, and no other
+pub record RefusedFor (text printed : List ℕ) : Type 0 where
+  pub number : ℕ
+  pub place : ℕ
+  pub cause : firstCause (readJob text) ≡ Refused number place
+  pub row : TextRow number
+  pub is : printed ≡ refusedText number place
+
+-- an answer: the text says a job, no row refuses it, and the printed verdict is decided: a run with an accepted lasso, or empty, when no lasso is accepted
+pub record Answered (text printed : List ℕ) : Type 0 where
+  pub asked : Job
+  pub read : readJob text ≡ job asked
+  pub sound : firstCause (job asked) ≡ Sound
+  pub verdict : Verdict
+  pub room : List ℕ
+  pub decided : Decided (jobTable asked) (asked .condition) (asked .needs) verdict room
+  pub is : printed ≡ answerText verdict (asked .condition) room
+
+-- two runs that differ in their lassos at most: the lines of verdict, code, place and pair are the same
+pub record TwoRuns (printed printed' : List ℕ) : Type 0 where
+  pub condition : Acceptance
+  pub pair : ℕ
+  pub prefix : List ℕ
+  pub cycle : List ℕ
+  pub prefix' : List ℕ
+  pub cycle' : List ℕ
+  pub first : printed ≡ topText (Run 0 0 pair) condition ++ bottomText prefix cycle
+  pub second : printed' ≡ topText (Run 0 0 pair) condition ++ bottomText prefix' cycle'

@@ -1,0 +1,78 @@
+// From bytes to bytes: a job text in, the printed answer out, for every byte string (docs/RULES.md, "The job text and the printed answer"). Reads by
+// `job_text`, judges by `judging`, prints by `job_text`. What a text is answered is in specs/Replied.antt.
+use job_text::printer::Printed;
+use job_text::printer::print;
+use job_text::reader::read;
+use table::Acceptance;
+use table::Answer;
+use table::Finding;
+use table::Verdict;
+ghost use Prim.Native.Nat.{_≤_};
+ghost use lib.ListN.{length};
+ghost use Rattle.job_text.specs.Printed.{answerText, mostPrinted};
+ghost use Rattle.judge_text.specs.Replied.{refusedText, Holds, Replied};
+
+// No printed answer is longer: at most 8,703 edge numbers of three digits with their commas, and what stands around them.
+pub const MOST_PRINTED: usize = 34932;
+
+// What the judge is lent: enough for 256 states, 512 edges and 32 marks.
+const LENT_ROOM: usize = 8703;
+
+const LENT_SCRATCH: usize = 4160;
+
+// Prints an answer that fits.
+fn show(answer: Answer, condition: Acceptance, room: &[u32], out: &mut [u8; MOST_PRINTED]) -> usize
+    requires { ⌜ length (answerText (answer .verdict) condition (now room)) ≤ mostPrinted ⌝ }
+    ensures { λ r. ⌜ Holds (answerText (answer .verdict) condition (now (room .entry))) (now (out .exit)) r ⌝ }
+{
+    match print(answer, condition, room, out) {
+        Printed::Text { length } => length,
+        // never: it fits
+        Printed::Refused {
+            number: _,
+            place: _,
+        } => 0,
+    }
+}
+
+// Prints what the reader refuses.
+fn show_refused(number: u32, place: u32, out: &mut [u8; MOST_PRINTED]) -> usize
+    ensures { λ r. ⌜ Holds (refusedText number place) (now (out .exit)) r ⌝ }
+{
+    let room = [0u32; 0];
+    let refused = Answer {
+        verdict: Verdict::Refused { number, place },
+    };
+    show(refused, Acceptance::Buchi(0), &room, out)
+}
+
+// The printed answer to a text and zeros after it, in `out`; gives its length. For every text: what the reader refuses is told, what it reads is judged.
+pub fn judge_text(text: &[u8], out: &mut [u8; MOST_PRINTED]) -> usize
+    ensures { λ r. ⌜ Replied (now (text .entry)) (now (out .exit)) r ⌝ }
+{
+    let mut from = [0u32; 512];
+    let mut to = [0u32; 512];
+    let mut marks = [0u32; 512];
+    let job = read(text, &mut from, &mut to, &mut marks);
+    let finding = job.finding;
+    if let Finding::Refused { number, place } = finding {
+        return show_refused(number, place, out);
+    }
+    let m = job.edges as usize;
+    let condition = job.condition;
+    let needs = job.needs;
+    let mut room = [0u32; LENT_ROOM];
+    let mut scratch = [0u32; LENT_SCRATCH];
+    let answer = judging::judge(
+        job.states,
+        job.start,
+        &from[0..m],
+        &to[0..m],
+        &marks[0..m],
+        condition,
+        needs,
+        &mut room,
+        &mut scratch,
+    );
+    show(answer, condition, &room, out)
+}

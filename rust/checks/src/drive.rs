@@ -9,6 +9,7 @@ use crate::judges::{Judge, Plain};
 use crate::oracle::{self, Expected};
 use crate::random::Random;
 use crate::refusal;
+use crate::shortest::{self, ByKind};
 use crate::shrink;
 use mukhadero::Condition;
 use std::collections::BTreeMap;
@@ -19,6 +20,8 @@ use std::fmt;
 pub struct Tally {
     pub tables: u64,
     pub seen: BTreeMap<String, u64>,
+    /// The lengths of the judge's lassos on small tables.
+    pub lengths: ByKind,
 }
 
 impl Tally {
@@ -74,7 +77,17 @@ fn table(judge: &dyn Judge, seed: u64, number: u64, tally: &mut Tally) -> Result
     tally.count(format!("{} {}", kind(&case.condition), outcome(expected)));
     harness::check_judge(&Plain, &case, expected, &mut random)
         .map_err(|fault| Failure::new(&format!("{what}, THE PLAIN JUDGE"), fault, &case, None))?;
-    harness::check_judge(judge, &case, expected, &mut random).map_err(|fault| Failure::new(&what, fault, &case, None))?;
+    let answer =
+        harness::check_judge(judge, &case, expected, &mut random).map_err(|fault| Failure::new(&what, fault, &case, None))?;
+    if let Expected::Run { pair } = expected {
+        if shortest::is_small(&case, pair) {
+            let reported = answer.prefix_length as u64 + answer.cycle_length as u64;
+            // the lasso was found to be accepted: so there is a shortest one, and it is no longer
+            let shortest = shortest::shortest(&case, pair).filter(|&length| length <= reported);
+            let shortest = shortest.unwrap_or_else(|| panic!("{what}: {answer:?} is shorter than the shortest lasso: {case:?}"));
+            tally.lengths.count(kind(&case.condition), reported, shortest, number);
+        }
+    }
 
     let (k, outputs) = any_translation(&case, &mut random);
     let number = harness::check_one_mark(judge, &case, k, outputs, &mut random)

@@ -5,6 +5,7 @@
 //!   that, reachability goal by goal.
 //! - [`families`] and [`damage`]: tables, structured, random and broken. [`random`]: numbers from fixed seeds.
 //! - [`lent`]: buffers between guard cells. [`judges`]: the judges that can be put under test.
+//! - [`shortest`]: how long a lasso need be, on small tables.
 //! - [`harness`]: one table through one judge, every promise looked at. [`drive`]: many tables. [`job_text`]: a table in print.
 //!   [`shrink`]: a failing table with fewer edges.
 
@@ -20,4 +21,5 @@ pub mod lent;
 pub mod oracle;
 pub mod random;
 pub mod refusal;
+pub mod shortest;
 pub mod shrink;

@@ -13,6 +13,11 @@ fn main() {
             for (name, count) in &tally.seen {
                 println!("{count:>9}  {name}");
             }
+            println!("{}", tally.lengths);
+            if let Err(longer) = tally.lengths.within_limit() {
+                println!("{longer}");
+                std::process::exit(1);
+            }
         }
         Err(failure) => {
             println!("{failure}");

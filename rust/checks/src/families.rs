@@ -52,6 +52,16 @@ pub fn dense(states: u32, condition: Condition, percent: u32, random: &mut Rando
     case
 }
 
+/// Random edges between few states, very many for each pair of them; each mark of Büchi k stands on one edge.
+pub fn few_states(states: u32, edges: u32, k: u32, random: &mut Random) -> Case {
+    let mut list: Vec<Edge> = (0..edges).map(|_| (random.below(states), random.below(states), 0)).collect();
+    for mark in 0..k {
+        let e = random.below(edges) as usize;
+        list[e].2 |= 1 << mark;
+    }
+    Case::new("few states", states, random.below(states), list, Condition::Buchi { marks: k })
+}
+
 /// A path over all states closed into one cycle; further edges lead backwards. Each mark of Büchi k stands on one edge; if `short`,
 /// the last mark stands on none.
 pub fn long_cycle(states: u32, edges: u32, k: u32, short: bool, random: &mut Random) -> Case {

@@ -35,6 +35,9 @@ const FAMILIES: &[(&str, Make)] = &[
         families::scattered(m / 8, m, Condition::Rabin { pairs: 4, needs: [2, 2, 2, 2, 0, 0, 0, 0] }, 10, random)
     }),
     ("dense, Büchi 8", |m, random| families::dense(m.isqrt(), Condition::Buchi { marks: 8 }, 5, random)),
+    ("8 states, Büchi 1", |m, random| families::few_states(8, m, 1, random)),
+    ("8 states, Büchi 32", |m, random| families::few_states(8, m, 32, random)),
+    ("64 states, Büchi 8", |m, random| families::few_states(64, m, 8, random)),
     ("long cycle, m = n", |m, random| families::long_cycle(m / 8, m / 8, 4, false, random)),
     ("long cycle, edges back", |m, random| families::long_cycle(m / 8, m, 4, false, random)),
     ("long cycle, a mark short", |m, random| families::long_cycle(m / 8, m, 4, true, random)),

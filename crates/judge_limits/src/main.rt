@@ -9,6 +9,14 @@ use table::Verdict;
 
 const NO_NEEDS: [u32; 8] = [0; 8];
 
+// What stands above the edges: how many states, the start, the condition.
+struct Head {
+    states: u32,
+    start: u32,
+    condition: Acceptance,
+    needs: [u32; 8],
+}
+
 fn print(text: &[u8]) {
     io::write_all(STDOUT_FILENO, text);
 }
@@ -74,55 +82,49 @@ fn print_answer(verdict: Verdict, room: &[u32], scratch: &[u32]) {
 
 fn answer_over(
     label: &[u8],
-    n: u32,
-    start: u32,
+    head: Head,
     from: &[u32],
     to: &[u32],
     marks: &[u32],
-    condition: Acceptance,
-    needs: [u32; 8],
     room: &mut [u32],
     scratch: &mut [u32],
 ) {
     print(label);
-    let answer = judge(n, start, from, to, marks, condition, needs, room, scratch);
-    let verdict = answer.verdict;
-    print_answer(verdict, room, scratch);
-}
-
-// As much room as 4,096 states need under Büchi 1, and as much scratch as 32,768 edges need.
-fn answer(
-    label: &[u8],
-    n: u32,
-    start: u32,
-    from: &[u32],
-    to: &[u32],
-    marks: &[u32],
-    condition: Acceptance,
-    needs: [u32; 8],
-) {
-    let mut room = [7u32; 12287];
-    let mut scratch = [7u32; 131144];
-    answer_over(
-        label,
-        n,
-        start,
+    let condition = head.condition;
+    let needs = head.needs;
+    let answer = judge(
+        head.states,
+        head.start,
         from,
         to,
         marks,
         condition,
         needs,
-        &mut room,
-        &mut scratch,
+        room,
+        scratch,
     );
+    let verdict = answer.verdict;
+    print_answer(verdict, room, scratch);
+}
+
+// As much room as 4,096 states need under Büchi 1, and as much scratch as 32,768 edges need.
+fn answer(label: &[u8], head: Head, from: &[u32], to: &[u32], marks: &[u32]) {
+    let mut room = [7u32; 12287];
+    let mut scratch = [7u32; 131144];
+    answer_over(label, head, from, to, marks, &mut room, &mut scratch);
 }
 
 // One edge, 4095>4095{}, under Büchi 0.
 fn last_loop(label: &[u8], n: u32, start: u32) {
     let ends = [4095u32];
     let marks = [0u32];
-    let condition = Acceptance::Buchi(0);
-    answer(label, n, start, &ends, &ends, &marks, condition, NO_NEEDS);
+    let head = Head {
+        states: n,
+        start,
+        condition: Acceptance::Buchi(0),
+        needs: NO_NEEDS,
+    };
+    answer(label, head, &ends, &ends, &marks);
 }
 
 fn state_counts() {
@@ -135,7 +137,13 @@ fn state_counts() {
 
 // Loops of one state, 0>0, with the marks given; `zeros` has a cell for each.
 fn loops(label: &[u8], zeros: &[u32], marks: &[u32], condition: Acceptance, needs: [u32; 8]) {
-    answer(label, 1, 0, zeros, zeros, marks, condition, needs);
+    let head = Head {
+        states: 1,
+        start: 0,
+        condition,
+        needs,
+    };
+    answer(label, head, zeros, zeros, marks);
 }
 
 fn edge_counts() {
@@ -192,19 +200,13 @@ fn last_pair(label: &[u8]) {
 fn marked_loop(label: &[u8], room: &mut [u32], scratch: &mut [u32]) {
     let ends = [0u32];
     let marks = [1u32];
-    let condition = Acceptance::Buchi(1);
-    answer_over(
-        label,
-        1,
-        0,
-        &ends,
-        &ends,
-        &marks,
-        condition,
-        NO_NEEDS,
-        room,
-        scratch,
-    );
+    let head = Head {
+        states: 1,
+        start: 0,
+        condition: Acceptance::Buchi(1),
+        needs: NO_NEEDS,
+    };
+    answer_over(label, head, &ends, &ends, &marks, room, scratch);
 }
 
 fn lent_lengths() {
@@ -257,8 +259,13 @@ fn nest(label: &[u8], marked: u32) {
     let mut marks = [0u32; 33];
     put_levels(&mut from, &mut to, &mut marks);
     put_edge(&mut from, &mut to, &mut marks, 32, 16, 16, marked);
-    let condition = Acceptance::Streett(16);
-    answer(label, 17, 0, &from, &to, &marks, condition, NO_NEEDS);
+    let head = Head {
+        states: 17,
+        start: 0,
+        condition: Acceptance::Streett(16),
+        needs: NO_NEEDS,
+    };
+    answer(label, head, &from, &to, &marks);
 }
 
 // The cells come to hold first, first + 1, and so on.
@@ -281,8 +288,13 @@ fn path(label: &[u8], last: u32) {
     count_up(&mut to, 1);
     to[4095] = last;
     marks[4095] = 1;
-    let condition = Acceptance::Buchi(1);
-    answer(label, 4096, 0, &from, &to, &marks, condition, NO_NEEDS);
+    let head = Head {
+        states: 4096,
+        start: 0,
+        condition: Acceptance::Buchi(1),
+        needs: NO_NEEDS,
+    };
+    answer(label, head, &from, &to, &marks);
 }
 
 fn main() {

@@ -1,64 +1,26 @@
 -- What the program lends the judge is enough for every job that it reads: rows 8 and 9 never come out. Assumes nothing.
-use mathlib.Core.Path.{_≡_, refl, sym, ap, _∙_, subst}
+use mathlib.Core.Path.{_≡_, refl, subst}
 use mathlib.Core.Bool.{false, cond}
-use mathlib.Core.List.{List, [], _∷_}
-use Prim.Native.Nat.{ℕ, zero, suc, _+_, _-_, _≤_, _<_}
+use mathlib.Core.List.{List}
+use Prim.Native.Nat.{ℕ, _+_, _≤_}
 use native.Mathlib.Nat.{mul-le-mul}
 use native.Mathlib.Omega.{arith}
 use lib.Dec.{ltb}
-use lib.ListN.{drop, replicate, length-map}
-use lib.Seq.{getD-drop}
-use borrow.Author.Tests.{ltb-false, le-ltb}
+use lib.ListN.{replicate, length-map}
+use borrow.Author.Tests.{le-ltb}
 use Rattle.marks.specs.Mark.{width}
-use Rattle.marks.proofs.Cases.{below}
-use Rattle.table.specs.declared.Acceptance.{Acceptance}
-use Rattle.table.specs.declared.Acceptance.the-variants.{Buchi, Streett, Rabin}
 use Rattle.table.specs.declared.Finding.{Finding}
 use Rattle.table.specs.declared.Finding.the-variants.{Sound, Refused}
 use Rattle.table.specs.declared.Verdict.{Verdict}
 use Rattle.table.specs.declared.Answer.{Answer}
-use Rattle.table.specs.Condition.{need, dealt}
-use Rattle.table.specs.Refusal.{someNeed, wrongCondition, refusal}
-use Rattle.table.proofs.Sound.{either-false, used-few, sound-fit}
+use Rattle.table.specs.Refusal.{wrongCondition, refusal}
+use Rattle.table.proofs.Sound.{sound-fit}
 use Rattle.job_text.specs.Value.{Edge}
 use Rattle.job_text.specs.Job.{Job}
-use Rattle.judging.specs.Answer.{largest, rank, roomNeeded, scratchNeeded, further, judgeRefusal, ByCause, Answers}
+use Rattle.judging.specs.Answer.{rank, roomNeeded, scratchNeeded, further, judgeRefusal, ByCause, Answers}
+use Rattle.judging.proofs.Ranks.{rank-few}
 use Rattle.judge_text.specs.Replied.{edgeCells, jobTable, lentRoom, lentScratch}
 use Rattle.judge_text.proofs.Limits.{Limited}
-
--- ---- r is at most 32: marks are dealt out in order, so no need is above the marks in all
-
-need-dealt : (needs : List ℕ) (i p : ℕ) → i < p → need needs i ≤ dealt needs p
-need-dealt needs i zero l = absurd (omega arith)
-need-dealt needs i (suc p) l =
-    below i p (λ h. omega (arith, need-dealt needs i p h))
-    (λ h. let e : i ≡ p = omega arith in omega (arith, ap (need needs) e))
-
-none-above : (needs : List ℕ) → someNeed needs ≡ false → (i : ℕ) → need needs i ≡ 0
-none-above [] e i = refl
-none-above (d ∷ ds) e zero = omega (arith, ltb-false 0 d (either-false (ltb 0 d) (someNeed ds) e .0))
-none-above (d ∷ ds) e (suc i) = none-above ds (either-false (ltb 0 d) (someNeed ds) e .1) i
-
-largest-least : (needs : List ℕ) (b : ℕ) → ((i : ℕ) → need needs i ≤ b) → largest needs ≤ b
-largest-least [] b f = omega arith
-largest-least (d ∷ ds) b f = omega (arith, f 0, largest-least ds b (λ i. f (suc i)))
-
-rank-few : (c : Acceptance) (needs : List ℕ) → wrongCondition c needs ≡ false → rank c needs ≤ width
-rank-few (Buchi k) needs w = used-few (Buchi k) needs w
-rank-few (Streett p) needs w = omega (arith, used-few (Streett p) needs w)
-rank-few (Rabin p) needs w = largest-least needs width each
-  where
-    rest : someNeed (drop p needs) ≡ false
-    rest = either-false (someNeed (drop p needs)) _ (either-false (ltb 8 p) _ w .1) .0
-
-    each : (i : ℕ) → need needs i ≤ width
-    each i =
-        below i p
-        (λ l. omega (arith, need-dealt needs i p l, used-few (Rabin p) needs w))
-        (λ l.
-        let e : p + (i - p) ≡ i = omega arith in
-        let z : need needs i ≡ 0 = ap (need needs) (sym e) ∙ sym (getD-drop p needs (i - p) 0) ∙ none-above (drop p needs) rest (i - p) in
-        omega arith)
 
 -- ---- what a job needs
 

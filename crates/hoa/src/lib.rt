@@ -1,0 +1,22 @@
+// Reads a text of the Hanoi format into lent tables (docs/RULES.md, "The Hanoi format"). Relies on the crates `hoa_tokens`, `hoa_label`,
+// `hoa_formula`, `table` and `marks`. What each text says is in specs/.
+use table::Acceptance;
+
+// A number of the header, if it was given.
+pub enum Given {
+    Not,
+    Value(u32),
+}
+
+// What was read of the header so far: the numbers of States:, Start:, AP: and Acceptance:, whether acc-name:, tool: and name: came, and the condition.
+pub struct Head {
+    pub states: Given,
+    pub start: Given,
+    pub props: Given,
+    pub marks: Given,
+    pub hint: bool,
+    pub tool: bool,
+    pub name: bool,
+    pub condition: Acceptance,
+    pub needs: [u32; 8],
+}

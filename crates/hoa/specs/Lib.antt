@@ -1,1 +1,6 @@
+-- Head: what is known of a header
 pub mod Head
+-- Sig: signatures token by token
+pub mod Sig
+-- Rows: the rows token by token
+pub mod Rows

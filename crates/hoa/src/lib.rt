@@ -20,3 +20,11 @@ pub struct Head {
     pub condition: Acceptance,
     pub needs: [u32; 8],
 }
+
+// What the rows of a text are held against: n, if it was given, the start, the number of propositions and of marks.
+pub struct Limits {
+    pub states: Given,
+    pub start: u32,
+    pub props: u32,
+    pub marks: u32,
+}

@@ -1,5 +1,6 @@
 // Reads a text of the Hanoi format into lent tables (docs/RULES.md, "The Hanoi format"). Relies on the crates `hoa_tokens`, `hoa_label`,
 // `hoa_formula`, `table` and `marks`. What each text says is in specs/.
+use hoa_tokens::Header;
 use table::Acceptance;
 
 // A number of the header, if it was given.
@@ -27,4 +28,27 @@ pub struct Limits {
     pub start: u32,
     pub props: u32,
     pub marks: u32,
+}
+
+// What a token is where the rows stand: `State:`, `[`, an INT, `--END--`, `{`, a STRING, `&`, or a fault.
+pub enum Entry {
+    Row,
+    Edge,
+    Bare,
+    Close,
+    Sig,
+    Text,
+    Join,
+    Wrong(u32),
+}
+
+// What a token is where the header stands: the header of an item, `--BODY--`, a WORD, an INT, a STRING, `&`, or a fault.
+pub enum Piece {
+    Item(Header),
+    Body,
+    Word,
+    Int,
+    Text,
+    Join,
+    Wrong(u32),
 }

@@ -6,7 +6,7 @@ use Rattle.marks.specs.Mark.{union}
 use Rattle.hoa_tokens.specs.declared.Sign.{Sign}
 use Rattle.hoa_tokens.specs.declared.Sign.the-variants as sign-is
 use Rattle.hoa_tokens.specs.Token.{Token, int, word, header, str, aname, sign, body, end, abort, finish, bad}
-use Rattle.hoa.specs.Machine.{Step, go, done, wrong}
+use Rattle.hoa_step.specs.Machine.{Step, go, done, wrong}
 
 -- a sig's marks so far, and in the end
 abbrev pub SigStep : Type 0

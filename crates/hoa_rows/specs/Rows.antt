@@ -12,14 +12,15 @@ use Rattle.hoa_tokens.specs.declared.Sign.the-variants as sign-is
 use Rattle.hoa_tokens.specs.Token.{Token, int, word, header, str, aname, sign, body, end, abort, finish, bad}
 use Rattle.hoa_label.specs.Labels as label
 use Rattle.hoa_label.specs.Labels.{LabelState, labelBegin, labelStep, LabelStep}
-use Rattle.hoa.specs.declared.Given.{Given}
-use Rattle.hoa.specs.declared.Given.the-variants.{Not, Value}
-use Rattle.hoa.specs.declared.Limits.{Limits}
-use Rattle.hoa.specs.Head.{mostHoaStates, mostHoaEdges, notBelow}
-use Rattle.hoa.specs.declared.Entry.{Entry}
-use Rattle.hoa.specs.declared.Entry.the-variants as entry-is
-use Rattle.hoa.specs.Machine.{Step, go, done, wrong, wantsInt}
-use Rattle.hoa.specs.Sig.{sigStep, SigStep}
+use Rattle.hoa_step.specs.declared.Given.{Given}
+use Rattle.hoa_step.specs.declared.Given.the-variants.{Not, Value}
+use Rattle.hoa_rows.specs.declared.Limits.{Limits}
+use Rattle.hoa_step.specs.Given.{notBelow}
+use Rattle.job_text.specs.Job.{mostJobStates, mostJobEdges}
+use Rattle.hoa_rows.specs.declared.Entry.{Entry}
+use Rattle.hoa_rows.specs.declared.Entry.the-variants as entry-is
+use Rattle.hoa_step.specs.Machine.{Step, go, done, wrong, wantsInt}
+use Rattle.hoa_rows.specs.Sig.{sigStep, SigStep}
 
 -- ---- the rows so far
 
@@ -170,7 +171,7 @@ onEntry l b (entry-is.Wrong n) = wrong n
 -- "`[` behind `State:`: always (labels on states)" 41; "INT of a row: not below n given, or a row so far has it" 41, "above 255" 42
 abbrev pub onNumber : Limits → Rows → ℕ → RowStep
 onNumber l b q =
-    cond (notBelow q (l .states) || came q (b .seen)) (wrong 41) (cond (leb mostHoaStates q) (wrong 42) (go (rowName (withRow q b))))
+    cond (notBelow q (l .states) || came q (b .seen)) (wrong 41) (cond (leb mostJobStates q) (wrong 42) (go (rowName (withRow q b))))
 
 abbrev pub labelled : Entry → RowStep → RowStep
 labelled entry-is.Edge s = wrong 41
@@ -212,7 +213,7 @@ onRowMarks b (wrong n) = wrong n
 
 -- "`]` of an edge: label satisfiable and 512 edges kept so far" 42
 abbrev pub shutLabel : ℕ → Rows → RowStep
-shutLabel x b = cond (ltb 0 x && leb mostHoaEdges (length (b .edges))) (wrong 42) (go (target x b))
+shutLabel x b = cond (ltb 0 x && leb mostJobEdges (length (b .edges))) (wrong 42) (go (target x b))
 
 -- in an edge's label
 abbrev pub onLabel : Rows → LabelStep → RowStep
@@ -222,7 +223,7 @@ onLabel b (label.wrong n) = wrong n
 
 -- "INT of a target: not below n given" 41, "above 255" 42
 abbrev pub onTarget : Limits → ℕ → Rows → ℕ → RowStep
-onTarget l x b to = cond (notBelow to (l .states)) (wrong 41) (cond (leb mostHoaStates to) (wrong 42) (go (targetMore x to b)))
+onTarget l x b to = cond (notBelow to (l .states)) (wrong 41) (cond (leb mostJobStates to) (wrong 42) (go (targetMore x to b)))
 
 -- behind a target: "`&`: always" 41; a sig, or what follows the edge
 abbrev pub onMore : Limits → ℕ → ℕ → Rows → Entry → RowStep

@@ -4,3 +4,5 @@ pub mod Sig
 pub mod Rows
 -- Sorted: edges by the state that they leave
 pub mod Sorted
+-- Lent: what comes back, and what the lent tables hold
+pub mod Lent

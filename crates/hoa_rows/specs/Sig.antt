@@ -2,7 +2,7 @@
 use mathlib.Core.Bool.{cond}
 use Prim.Native.Nat.{ℕ, _^_}
 use lib.Dec.{ltb}
-use Rattle.marks.specs.Mark.{union}
+use Rattle.marks.specs.Mark.{union, width}
 use Rattle.hoa_tokens.specs.declared.Sign.{Sign}
 use Rattle.hoa_tokens.specs.declared.Sign.the-variants as sign-is
 use Rattle.hoa_tokens.specs.Token.{Token, int, word, header, str, aname, sign, body, end, abort, finish, bad}
@@ -12,9 +12,13 @@ use Rattle.hoa_step.specs.Machine.{Step, go, done, wrong}
 abbrev pub SigStep : Type 0
 SigStep = Step ℕ ℕ
 
+-- mark i alone, of those that a set can hold
+unfoldable pub alone : ℕ → ℕ
+alone i = cond (ltb i width) (2 ^ i) 0
+
 -- the marks, and mark i
 abbrev pub withMark : ℕ → ℕ → ℕ
-withMark m i = union m (2 ^ i)
+withMark m i = union m (alone i)
 
 abbrev pub sigSign : ℕ → Sign → SigStep
 sigSign m sign-is.BraceRight = done m

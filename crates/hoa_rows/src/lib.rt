@@ -21,3 +21,9 @@ pub enum Entry {
     Join,
     Wrong(u32),
 }
+
+// What reading the rows gives: how many states and edges, or the refusal.
+pub enum RowsRead {
+    Kept { states: u32, edges: u32 },
+    Refused { number: u32, place: usize },
+}

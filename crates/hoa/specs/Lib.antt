@@ -1,0 +1,2 @@
+-- Reading: what a text says
+pub mod Reading

@@ -1,0 +1,1 @@
+// Reads a text of the Hanoi format into lent tables.

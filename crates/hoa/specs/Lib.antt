@@ -1,2 +1,6 @@
--- Reading: what a text says
+-- Doc: HOA version 1, the grammar
+pub mod Doc
+-- Subset: the texts that are read, and what each says
+pub mod Subset
+-- Reading: tokens from the left, to the faulty one or to what the text says
 pub mod Reading

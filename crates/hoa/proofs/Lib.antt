@@ -1,0 +1,6 @@
+-- Names: the same bytes
+pub mod Names
+-- Takes: which items and rows fit behind what was read
+pub mod Takes
+-- Heads: the items of a header are walked as they fit
+pub mod Heads

@@ -99,7 +99,7 @@ module _ (h : Head) (t : Token) (rest : List Token) (o : Opens t) where
 -- ---- names
 
 -- names that are not among those so far
-abbrev New : List (List ℕ) → List (List ℕ) → Type 0
+abbrev pub New : List (List ℕ) → List (List ℕ) → Type 0
 New seen ns = Each (λ n. nameCame n seen ≡ false) ns
 
 -- of names that are new, those that differ from one more are new behind it
@@ -186,7 +186,7 @@ items-front (i ∷ is) ts = item-front i (itemsText is (body ∷ ts))
 
 -- the limits that the items are held to
 unfoldable pub AllLimits : {h h' : Head} {is : List Item} → TakesAll h is h' → Type 0
-AllLimits takesNone = Unit {0}
+AllLimits (takesNone e) = Unit {0}
 AllLimits (takesMore f fs) = ItemLimit f × AllLimits fs
 
 onward-more : {L M : Type 0} {w w' w'' : HeadWalk} → Onward L w w' → Onward M w' w'' → Onward (L × M) w w''
@@ -198,7 +198,7 @@ onward-more (limit n ts e) _ = limit (λ l. n (l .0)) ts e
 pub items-walk : (h h' : Head) (is : List Item) (rest : List Token) (fs : TakesAll h is h')
     → Onward (AllLimits fs) (walk headStep (itemsText is (body ∷ rest)) (items h)) (walk headStep (body ∷ rest) (items h'))
 unfolding itemsText AllLimits
-items-walk h _ _ rest takesNone = same refl
+items-walk h _ _ rest (takesNone e) = same (ap (λ (x : Head). walk headStep (body ∷ rest) (items x)) e)
 items-walk h _ _ rest (takesMore {i = i} {is = is} {h' = h'} {h'' = h''} f fs) =
     let front = items-front is rest in
     onward-more (rw (front .is) (item-walk h h' i (front .token) (front .rest) (front .opens) f)) (items-walk h' h'' is rest fs)

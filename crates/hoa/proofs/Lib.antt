@@ -4,3 +4,5 @@ pub mod Names
 pub mod Takes
 -- Heads: the items of a header are walked as they fit
 pub mod Heads
+-- HeadSound: what is walked to behind `--BODY--` is a header of the subset
+pub mod HeadSound

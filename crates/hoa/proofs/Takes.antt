@@ -35,7 +35,7 @@ pub data Takes (h : Head) : Item → Head → Type 0 where
 
 -- the items fit one behind the other
 pub data TakesAll : Head → List Item → Head → Type 0 where
-  takesNone : {h : Head} → TakesAll h [] h
+  takesNone : {h h' : Head} → h ≡ h' → TakesAll h [] h'
   takesMore : {i : Item} {is : List Item} {h h' h'' : Head} → Takes h i h' → TakesAll h' is h'' → TakesAll h (i ∷ is) h''
 
 -- the limits that an item is held to

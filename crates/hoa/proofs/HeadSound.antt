@@ -15,6 +15,7 @@ use Rattle.hoa_tokens.specs.declared.Header.{Header}
 use Rattle.hoa_tokens.specs.declared.Header.the-variants as header-is
 use Rattle.hoa_tokens.specs.declared.Sign.{Sign}
 use Rattle.hoa_tokens.specs.declared.Sign.the-variants as sign-is
+use Rattle.hoa_tokens.specs.Bytes.{same}
 use Rattle.hoa_tokens.specs.Token.{Token, int, word, header, str, aname, sign, body, end, abort, finish, bad}
 use Rattle.job_text.specs.Job.{mostJobStates}
 use Rattle.table.specs.declared.Acceptance.{Acceptance}
@@ -30,7 +31,7 @@ use Rattle.hoa_head.specs.declared.Piece.the-variants as piece-is
 use Rattle.hoa_head.specs.Head.{mostProps, mostMarks, blank, withStates, withStart, withProps, withMarks, withAccName, withTool, withName}
 use Rattle.hoa_head.specs.Heading.{HeadState, opening, version, items, statesInt, startInt, propsInt, marksInt, startMore, names, inFormula, accName, toolText, toolMore, nameText, hints,
   HeadStep, pieceOf, pieceHeader, pieceSign, headStep, onPiece, onItem, onBody, once, onStates, onStart, onStartMore, onProps, onNames, onName, behindNames, unfinished, nameCame,
-  onMarks, onFormula, onAccName, onToolMore, onHints, onOpening, openingHeader, onVersion, versionWord}
+  onMarks, onFormula, behindFormula, onAccName, onToolMore, onHints, onOpening, openingHeader, onVersion, versionWord}
 use Rattle.hoa.specs.Doc as doc
 use Rattle.hoa.specs.Doc.{Conj, Hint, hintWord, hintInt, Extra, extraWord, extraInt, extraText, Item, itemText, itemsText, hintsText, extrasText, wordsText, stringsText, perhapsText}
 use Rattle.hoa.specs.Subset.{Each, eachNone, eachMore, Differ, differNone, differMore, StandardAs}
@@ -761,3 +762,184 @@ module _ (final : Head) (left : List Token) (formula-sound : FormulaSound) where
     sound-hints ints texts piece-is.Body q e = no-hint ints texts (sound-body h t ts (piece-body t q) e)
     sound-hints ints texts piece-is.Join q e = never _ _ e
     sound-hints ints texts (piece-is.Wrong n) q e = never _ _ e
+
+    -- ---- the names of AP:
+
+    -- names that are new behind one more are new, and differ from it
+    fewer-seen : (n : List ℕ) (seen ns : List (List ℕ)) → New (n ∷ seen) ns → New seen ns
+    fewer-seen n seen [] eachNone = eachNone
+    fewer-seen n seen (m ∷ ns) (eachMore e es) = eachMore {x = m} (neither (same m n) (nameCame m seen) e .1) (fewer-seen n seen ns es)
+
+    each-differs : (n : List ℕ) (seen ns : List (List ℕ)) → New (n ∷ seen) ns → Each (λ m. n ≡ m → ⊥) ns
+    each-differs n seen [] eachNone = eachNone
+    each-differs n seen (m ∷ ns) (eachMore e es) =
+        eachMore {x = m} (λ q. ne-same m n (neither (same m n) (nameCame m seen) e .0) (sym q)) (each-differs n seen ns es)
+
+    sound-new-name : (a : ℕ) (seen : List (List ℕ)) (bs : List ℕ) → t ≡ str bs → walkBy (onName a seen h bs) ts (λ u. walk headStep ts u) ≡ over final left
+      → length seen ≤ a → NamesLeft a seen h (t ∷ ts)
+    unfolding Behind Left stringsText
+    sound-new-name a seen bs q e l =
+        let p = passed (leb a (length seen) || nameCame bs seen) 41 (go (names a (bs ∷ seen) h)) ts (λ u. walk headStep ts u) e in
+        let n = neither (leb a (length seen)) (nameCame bs seen) (p .0) in
+        let r = behind (names a (bs ∷ seen) h) (p .1) (leb-false a (length seen) (n .0)) in
+        record {
+          ns = bs ∷ r .ns;
+          rest = r .rest;
+          text = behind-by q (r .text);
+          new = eachMore {x = bs} (n .1) (fewer-seen bs seen (r .ns) (r .new));
+          differ = differMore (each-differs bs seen (r .ns) (r .new)) (r .differ);
+          all = omega (arith, r .all);
+          more = r .more
+        }
+
+    sound-behind-names : (a : ℕ) (seen : List (List ℕ)) (few : Bool) → ltb (length seen) a ≡ few
+      → walkBy (cond few (unfinished (pieceOf t)) (onPiece (withProps a h) (pieceOf t))) ts (λ u. walk headStep ts u) ≡ over final left
+      → length seen ≤ a → NamesLeft a seen h (t ∷ ts)
+    unfolding stringsText
+    sound-behind-names a seen true q e l = absurd (unfinished-ends (pieceOf t) ts _ e)
+    sound-behind-names a seen false q e l =
+        record {
+          ns = [];
+          rest = t ∷ ts;
+          text = refl;
+          new = eachNone;
+          differ = differNone;
+          all = omega (arith, ltb-false (length seen) a q);
+          more = sound-piece (withProps a h) t ts (pieceOf t) refl behind e
+        }
+
+    -- ---- the formula
+
+    sound-behind-formula : (c : ℕ) (s : FormulaState) (m : FormulaMeaning) → formulaStep c s t ≡ formula.over m
+      → walkBy (behindFormula c h (pieceOf t) m) ts (λ u. walk headStep ts u) ≡ over final left → FormulaLeft c s h (t ∷ ts)
+    sound-behind-formula c s (standard condition needs) q e =
+        record {
+          condition = condition;
+          needs = needs;
+          rest = t ∷ ts;
+          leads = ends q;
+          more = sound-piece (withMarks c condition needs h) t ts (pieceOf t) refl behind e
+        }
+    sound-behind-formula c s short q e = absurd (unfinished-ends (pieceOf t) ts _ e)
+
+    sound-formula : (c : ℕ) (s : FormulaState) (x : FormulaStep) → formulaStep c s t ≡ x
+      → walkBy (onFormula c h t x) ts (λ u. walk headStep ts u) ≡ over final left → FormulaLeft c s h (t ∷ ts)
+    unfolding Behind Left
+    sound-formula c s (formula.go u) q e =
+        let r = behind (inFormula c u h) e in
+        record { condition = r .condition; needs = r .needs; rest = r .rest; leads = steps q (r .leads); more = r .more }
+    sound-formula c s (formula.over m) q e = sound-behind-formula c s m q e
+    sound-formula c s (formula.wrong n) q e = never _ _ e
+
+  -- the names, by the token
+  sound-names : (h : Head) (t : Token) (ts : List Token) → Behind ts → (a : ℕ) (seen : List (List ℕ))
+    → walkBy (onNames a seen h t) ts (λ u. walk headStep ts u) ≡ over final left → length seen ≤ a → NamesLeft a seen h (t ∷ ts)
+  unfolding onNames
+  sound-names h (str bs) ts behind a seen e l = sound-new-name h (str bs) ts behind a seen bs refl e l
+  sound-names h (int i) ts behind a seen e l = sound-behind-names h (int i) ts behind a seen (ltb (length seen) a) refl e l
+  sound-names h (word w) ts behind a seen e l = sound-behind-names h (word w) ts behind a seen (ltb (length seen) a) refl e l
+  sound-names h (header k) ts behind a seen e l = sound-behind-names h (header k) ts behind a seen (ltb (length seen) a) refl e l
+  sound-names h aname ts behind a seen e l = sound-behind-names h aname ts behind a seen (ltb (length seen) a) refl e l
+  sound-names h (sign g) ts behind a seen e l = sound-behind-names h (sign g) ts behind a seen (ltb (length seen) a) refl e l
+  sound-names h body ts behind a seen e l = sound-behind-names h body ts behind a seen (ltb (length seen) a) refl e l
+  sound-names h end ts behind a seen e l = sound-behind-names h end ts behind a seen (ltb (length seen) a) refl e l
+  sound-names h abort ts behind a seen e l = sound-behind-names h abort ts behind a seen (ltb (length seen) a) refl e l
+  sound-names h finish ts behind a seen e l = sound-behind-names h finish ts behind a seen (ltb (length seen) a) refl e l
+  sound-names h bad ts behind a seen e l = sound-behind-names h bad ts behind a seen (ltb (length seen) a) refl e l
+
+  -- ---- the first two tokens
+
+  sound-version : (t : Token) (ts : List Token) → Behind ts → walkBy (onVersion t) ts (λ u. walk headStep ts u) ≡ over final left → VersionLeft (t ∷ ts)
+  unfolding Behind Left onVersion
+  sound-version (word word-is.V1) ts behind e = record { rest = ts; text = refl; more = behind (items blank) e }
+  sound-version (word word-is.True) ts behind e = never _ _ e
+  sound-version (word word-is.False) ts behind e = never _ _ e
+  sound-version (word word-is.Inf) ts behind e = never _ _ e
+  sound-version (word word-is.Fin) ts behind e = never _ _ e
+  sound-version (word word-is.Other) ts behind e = never _ _ e
+  sound-version (int i) ts behind e = never _ _ e
+  sound-version (header k) ts behind e = never _ _ e
+  sound-version (str bs) ts behind e = never _ _ e
+  sound-version aname ts behind e = never _ _ e
+  sound-version (sign g) ts behind e = never _ _ e
+  sound-version body ts behind e = never _ _ e
+  sound-version end ts behind e = never _ _ e
+  sound-version abort ts behind e = never _ _ e
+  sound-version finish ts behind e = never _ _ e
+  sound-version bad ts behind e = never _ _ e
+
+  sound-opening : (t : Token) (ts : List Token) → Behind ts → walkBy (onOpening t) ts (λ u. walk headStep ts u) ≡ over final left → OpeningLeft (t ∷ ts)
+  unfolding Behind Left onOpening
+  sound-opening (header header-is.Hoa) ts behind e = record { rest = ts; text = refl; more = behind version e }
+  sound-opening (header header-is.States) ts behind e = never _ _ e
+  sound-opening (header header-is.Start) ts behind e = never _ _ e
+  sound-opening (header header-is.Ap) ts behind e = never _ _ e
+  sound-opening (header header-is.Alias) ts behind e = never _ _ e
+  sound-opening (header header-is.Acceptance) ts behind e = never _ _ e
+  sound-opening (header header-is.AccName) ts behind e = never _ _ e
+  sound-opening (header header-is.Tool) ts behind e = never _ _ e
+  sound-opening (header header-is.Name) ts behind e = never _ _ e
+  sound-opening (header header-is.Properties) ts behind e = never _ _ e
+  sound-opening (header header-is.State) ts behind e = never _ _ e
+  sound-opening (header header-is.Capital) ts behind e = never _ _ e
+  sound-opening (header header-is.Lower) ts behind e = never _ _ e
+  sound-opening (int i) ts behind e = never _ _ e
+  sound-opening (word w) ts behind e = never _ _ e
+  sound-opening (str bs) ts behind e = never _ _ e
+  sound-opening aname ts behind e = never _ _ e
+  sound-opening (sign g) ts behind e = never _ _ e
+  sound-opening body ts behind e = never _ _ e
+  sound-opening end ts behind e = never _ _ e
+  sound-opening abort ts behind e = never _ _ e
+  sound-opening finish ts behind e = never _ _ e
+  sound-opening bad ts behind e = never _ _ e
+
+  -- ---- all of it
+
+  sound-step : (s : HeadState) (t : Token) (ts : List Token) → Behind ts → walkBy (headStep s t) ts (λ u. walk headStep ts u) ≡ over final left → Left s (t ∷ ts)
+  unfolding headStep Left
+  sound-step opening t ts behind e = sound-opening t ts behind e
+  sound-step version t ts behind e = sound-version t ts behind e
+  sound-step (items h) t ts behind e = sound-piece h t ts (pieceOf t) refl behind e
+  sound-step (statesInt h) t ts behind e = sound-states h t ts behind e
+  sound-step (startInt h) t ts behind e = sound-start h t ts behind e
+  sound-step (propsInt h) t ts behind e = sound-props h t ts behind e
+  sound-step (marksInt h) t ts behind e = sound-marks h t ts behind e
+  sound-step (startMore h) t ts behind e = sound-start-more h t ts behind (pieceOf t) refl e
+  sound-step (names a seen h) t ts behind e = sound-names h t ts behind a seen e
+  sound-step (inFormula c s h) t ts behind e = sound-formula h t ts behind c s (formulaStep c s t) refl e
+  sound-step (accName h) t ts behind e = sound-acc-name h t ts behind (pieceOf t) refl e
+  sound-step (toolText h) t ts behind e = sound-tool h t ts behind e
+  sound-step (toolMore h) t ts behind e = sound-tool-more h t ts behind (pieceOf t) refl e
+  sound-step (nameText h) t ts behind e = sound-name h t ts behind e
+  sound-step (hints ints texts h) t ts behind e = sound-hints h t ts behind ints texts (pieceOf t) refl e
+
+  sound-left : (ts : List Token) (s : HeadState) → walk headStep ts s ≡ over final left → Left s ts
+  unfolding walk isOver Behind
+  sound-left [] s e = absurd (subst isOver (sym e) tt)
+  sound-left (t ∷ ts) s e = sound-step s t ts (λ u q. sound-left ts u q) e
+
+  -- the header of the subset that the tokens are
+  pub record Heading (ts : List Token) : Type 0 where
+    pub is : List Item
+    pub text : ts ≡ header header-is.Hoa ∷ word word-is.V1 ∷ itemsText is (body ∷ left)
+    pub takes : TakesAll blank is final
+    pub limits : AllLimits takes
+    pub started : isGiven (final .start) ≡ true
+    pub accepting : isGiven (final .marks) ≡ true
+
+  -- what is walked from the first token to behind `--BODY--` is a header of the subset
+  pub sound : (ts : List Token) → walk headStep ts opening ≡ over final left → Heading ts
+  unfolding Left
+  sound ts e =
+      let o = sound-left ts opening e in
+      let v = o .more in
+      let i = v .more in
+      record {
+        is = i .is;
+        text = o .text ∙ behind-by refl (v .text ∙ behind-by refl (i .text));
+        takes = i .takes;
+        limits = i .limits;
+        started = i .started;
+        accepting = i .accepting
+      }

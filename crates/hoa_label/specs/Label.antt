@@ -1,6 +1,6 @@
 -- Labels as a grammar, apart from any reader (docs/RULES.md, "The Hanoi format", labels). Assumes nothing.
 use mathlib.Core.Bool.{Bool, true, false, not, _&&_, _||_}
-use mathlib.Core.List.{List, [], _∷_}
+use mathlib.Core.List.{List, [], _∷_, _++_}
 use mathlib.Core.Path.{_≡_}
 use Prim.Native.Nat.{ℕ, suc, _<_, _≤_, max}
 use Rattle.hoa_tokens.specs.declared.Word.the-variants as word-is
@@ -87,6 +87,24 @@ unfoldable mutual
 -- brackets nest at most so deep: a limit of ours
 abbrev pub mostLevels : ℕ
 mostLevels = 256
+
+-- a label with a propositions; one whose brackets nest at most `levels` deep besides
+pub record Fitting (a : ℕ) (l : Label) : Type 0 where
+  pub fits : labelFits l a
+
+pub record Within (levels a : ℕ) (l : Label) : Type 0 where
+  pub fits : labelFits l a
+  pub deep : labelDepth l ≤ levels
+
+-- any label of the grammar
+pub record Any (l : Label) : Type 0 where
+
+-- a label of this kind, shut by its `]`, begins with the tokens
+pub record Begins (P : Label → Type 0) (ts : List Token) : Type 0 where
+  pub label : Label
+  pub kind : P label
+  pub more : List Token
+  pub text : labelText label (sign sign-is.BracketRight ∷ []) ≡ ts ++ more
 
 -- ---- what a label means
 

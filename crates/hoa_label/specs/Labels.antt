@@ -174,6 +174,26 @@ stepWithin levels a (has o c fs) t = onBehind o c fs (behind (isOutermost fs) t)
 unfoldable pub labelStep : ℕ → LabelState → Token → LabelStep
 labelStep a s t = stepWithin mostLevels a s t
 
+-- ---- tokens without their places
+
+pub data LabelWalk : Type 0 where
+  -- all tokens are admitted, and the label is not shut
+  going : LabelState → LabelWalk
+  -- the set of valuations, and the tokens behind `]`
+  closed : ℕ → List Token → LabelWalk
+  -- a token is faulty, with this number
+  faulty : ℕ → LabelWalk
+
+abbrev pub walkBy : LabelStep → List Token → (LabelState → LabelWalk) → LabelWalk
+walkBy (go s) ts more = more s
+walkBy (shut x) ts more = closed x ts
+walkBy (wrong n) ts more = faulty n
+
+-- the first token that is not admitted, or that shuts the label, decides
+unfoldable pub walkWithin : ℕ → ℕ → LabelState → List Token → LabelWalk
+walkWithin levels a s [] = going s
+walkWithin levels a s (t ∷ ts) = walkBy (stepWithin levels a s t) ts (λ u. walkWithin levels a u ts)
+
 -- ---- the tokens of a text
 
 pub data LabelEnd : Type 0 where

@@ -1,0 +1,6 @@
+-- Sets: the set of valuations that a label's tokens add up to
+pub mod Sets
+-- Walks: laws of a walk over tokens
+pub mod Walks
+-- Complete: every label is read to its end, with its set
+pub mod Complete

@@ -4,3 +4,5 @@ pub mod Sets
 pub mod Walks
 -- Complete: every label is read to its end, with its set
 pub mod Complete
+-- Sound: what is read to its end is a label
+pub mod Sound

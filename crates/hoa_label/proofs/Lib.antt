@@ -6,3 +6,5 @@ pub mod Walks
 pub mod Complete
 -- Sound: what is read to its end is a label
 pub mod Sound
+-- Faults: which token is faulty, and with which number
+pub mod Faults

@@ -47,38 +47,38 @@ front-deep x (or c l) d levels f g = omega arith
 -- where `S` holds propositions are below a, where `D` holds brackets nest at most `levels` deep
 module _ (S D : Type 0) (levels a : ℕ) (rest : List Token) where
   -- a factor with a propositions, d levels deep
-  record Fits (d : ℕ) (x : Lfactor) : Type 0 where
-    fits : S → factorFits x a
-    deep : D → factorDepth x + d ≤ levels
+  pub record Fits (d : ℕ) (x : Lfactor) : Type 0 where
+    pub fits : S → factorFits x a
+    pub deep : D → factorDepth x + d ≤ levels
 
   -- behind a factor, d levels deep, the tokens lead to the label's `]`, and `rest` follows
-  data Ends : ℕ → List Token → Type 0 where
+  pub data Ends : ℕ → List Token → Type 0 where
     last : Ends 0 (sign sign-is.BracketRight ∷ rest)
     out : {d : ℕ} {ts : List Token} → Ends d ts → Ends (suc d) (sign sign-is.ParenRight ∷ ts)
     more-and : {d : ℕ} {ts us : List Token} (x : Lfactor) → Fits d x → us ≡ factorText x ts → Ends d ts → Ends d (sign sign-is.And ∷ us)
     more-or : {d : ℕ} {ts us : List Token} (x : Lfactor) → Fits d x → us ≡ factorText x ts → Ends d ts → Ends d (sign sign-is.Or ∷ us)
 
   -- where a factor is wanted
-  record Factored (d : ℕ) (ts : List Token) : Type 0 where
-    first : Lfactor
-    fit : Fits d first
-    after : List Token
-    text : ts ≡ factorText first after
-    ends : Ends d after
+  pub record Factored (d : ℕ) (ts : List Token) : Type 0 where
+    pub first : Lfactor
+    pub fit : Fits d first
+    pub after : List Token
+    pub text : ts ≡ factorText first after
+    pub ends : Ends d after
 
   -- what shuts the level that is d deep, and what follows
-  abbrev After : ℕ → List Token → Type 0
+  abbrev pub After : ℕ → List Token → Type 0
   After zero us = us ≡ sign sign-is.BracketRight ∷ rest
   After (suc d) us = (ts : List Token) × ((us ≡ sign sign-is.ParenRight ∷ ts) × Ends d ts)
 
   -- a whole level
-  record Whole (d : ℕ) (ts : List Token) : Type 0 where
-    label : Label
-    fits : S → labelFits label a
-    deep : D → labelDepth label + d ≤ levels
-    after : List Token
-    text : ts ≡ labelText label after
-    shuts : After d after
+  pub record Whole (d : ℕ) (ts : List Token) : Type 0 where
+    pub label : Label
+    pub fits : S → labelFits label a
+    pub deep : D → labelDepth label + d ≤ levels
+    pub after : List Token
+    pub text : ts ≡ labelText label after
+    pub shuts : After d after
 
   -- the pieces of a level make a label
   gather : (x : Lfactor) {d : ℕ} {ts : List Token} → Fits d x → Ends d ts → Whole d (factorText x ts)
@@ -107,17 +107,17 @@ module _ (S D : Type 0) (levels a : ℕ) (rest : List Token) where
 
   -- ---- one token in front
 
-  abbrev framesOf : LabelState → List Frame
+  abbrev pub framesOf : LabelState → List Frame
   framesOf (wants f fs) = fs
   framesOf (has o k fs) = fs
 
   -- the tokens lead on from the state to the label's `]`
-  abbrev Rests : LabelState → List Token → Type 0
+  abbrev pub Rests : LabelState → List Token → Type 0
   Rests (wants f fs) ts = Factored (length fs) ts
   Rests (has o k fs) ts = Ends (length fs) ts
 
   -- the levels outside are no more than there may be
-  abbrev Few : List Frame → Type 0
+  abbrev pub Few : List Frame → Type 0
   Few fs = D → length fs ≤ levels
 
   -- what is asked of the tokens behind a step
@@ -170,7 +170,7 @@ module _ (S D : Type 0) (levels a : ℕ) (rest : List Token) where
           text = ap (λ (us : List Token). sign sign-is.ParenLeft ∷ us) (w .text ∙ ap (labelText (w .label)) (w .shuts .1 .0));
           ends = w .shuts .1 .1 }
 
-    whole : {d : ℕ} → Factored d ts → Whole d ts
+    pub whole : {d : ℕ} → Factored d ts → Whole d ts
     whole w = rw (w .text) (gather (w .first) (w .fit) (w .ends))
 
     by-level : (room : Bool) (f : Frame) (fs : List Frame) → ltb (length fs) levels ≡ room
@@ -263,7 +263,7 @@ module _ (S D : Type 0) (levels a : ℕ) (rest : List Token) where
   on-going u ts us (wrong n) more e = faulty-going e
 
   -- tokens that lead to a state stand in front of what leads on from it
-  pull : (u : LabelState) (us : List Token) → (Few (framesOf u) → Rests u us)
+  pub pull : (u : LabelState) (us : List Token) → (Few (framesOf u) → Rests u us)
     → (ts : List Token) (s : LabelState) → walkWithin levels a s ts ≡ going u → Few (framesOf s) → Rests s (ts ++ us)
   unfolding walkWithin
   pull u us r [] s e h = subst (λ (v : LabelState). Few (framesOf v) → Rests v us) (sym (going-inj e)) r h

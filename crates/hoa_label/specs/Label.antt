@@ -1,11 +1,12 @@
 -- Labels as a grammar, apart from any reader (docs/RULES.md, "The Hanoi format", labels). Assumes nothing.
 use mathlib.Core.Bool.{Bool, true, false, not, _&&_, _||_}
 use mathlib.Core.List.{List, [], _∷_, _++_}
+use mathlib.Core.Logic.{_⊎_}
 use mathlib.Core.Path.{_≡_}
 use Prim.Native.Nat.{ℕ, suc, _<_, _≤_, max}
 use Rattle.hoa_tokens.specs.declared.Word.the-variants as word-is
 use Rattle.hoa_tokens.specs.declared.Sign.the-variants as sign-is
-use Rattle.hoa_tokens.specs.Token.{Token, int, word, aname, sign}
+use Rattle.hoa_tokens.specs.Token.{Token, int, word, aname, sign, abort}
 
 mutual
   -- label = lconj ("|" lconj)*
@@ -105,6 +106,13 @@ pub record Begins (P : Label → Type 0) (ts : List Token) : Type 0 where
   pub kind : P label
   pub more : List Token
   pub text : labelText label (sign sign-is.BracketRight ∷ []) ≡ ts ++ more
+
+-- t is faulty behind the tokens ts, with the lowest number that holds: 40 if no label begins with them, and t is not `--ABORT--`; 41 if none with a
+-- propositions does; 42 if only such do whose brackets nest deeper than `levels`
+pub data Fault (levels a : ℕ) (ts : List Token) (t : Token) : ℕ → Type 0 where
+  no-label : (t ≡ abort → ⊥) → (Begins Any (ts ++ t ∷ []) → ⊥) → Fault levels a ts t 40
+  none-fits : (t ≡ abort) ⊎ Begins Any (ts ++ t ∷ []) → (Begins (Fitting a) (ts ++ t ∷ []) → ⊥) → Fault levels a ts t 41
+  too-deep : Begins (Fitting a) (ts ++ t ∷ []) → (Begins (Within levels a) (ts ++ t ∷ []) → ⊥) → Fault levels a ts t 42
 
 -- ---- what a label means
 

@@ -8,3 +8,5 @@ pub mod Complete
 pub mod Sound
 -- Faults: which token is faulty, and with which number
 pub mod Faults
+-- Meaning: what the set of a label means
+pub mod Meaning

@@ -1,9 +1,11 @@
 -- Labels as a grammar, apart from any reader (docs/RULES.md, "The Hanoi format", labels). Assumes nothing.
 use mathlib.Core.Bool.{Bool, true, false, not, _&&_, _||_}
 use mathlib.Core.List.{List, [], _∷_, _++_}
-use mathlib.Core.Logic.{_⊎_}
+use mathlib.Core.Logic.{_⊎_, _↔_}
 use mathlib.Core.Path.{_≡_}
-use Prim.Native.Nat.{ℕ, suc, _<_, _≤_, max}
+use Prim.Native.Nat.{ℕ, suc, _/_, _%_, _^_, _<_, _≤_, max}
+use lib.Dec.{eqb}
+use Rattle.marks.specs.Mark.{has}
 use Rattle.hoa_tokens.specs.declared.Word.the-variants as word-is
 use Rattle.hoa_tokens.specs.declared.Sign.the-variants as sign-is
 use Rattle.hoa_tokens.specs.Token.{Token, int, word, aname, sign, abort}
@@ -136,6 +138,15 @@ unfoldable mutual
 
 -- "some valuation of the a propositions makes it true"; a valuation is false from a on
 pub record Satisfiable (a : ℕ) (l : Label) : Type 0 where
-  pub valuation : ℕ → Bool
-  pub of-a : (i : ℕ) → a ≤ i → valuation i ≡ false
-  pub makes-true : labelHolds l valuation ≡ true
+  pub values : ℕ → Bool
+  pub of-a : (i : ℕ) → a ≤ i → values i ≡ false
+  pub makes-true : labelHolds l values ≡ true
+
+-- valuation v of at most 6 propositions: proposition i is true if bit i of v is 1
+unfoldable pub valuation : ℕ → ℕ → Bool
+valuation v i = eqb (v / 2 ^ i % 2) 1
+
+-- x is the label's set among the 64 valuations of 6 propositions
+pub record SetOf (l : Label) (x : ℕ) : Type 0 where
+  pub small : x < 2 ^ 64
+  pub each : (v : ℕ) → v < 64 → has v x ↔ (labelHolds l (valuation v) ≡ true)

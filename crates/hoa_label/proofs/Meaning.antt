@@ -1,15 +1,15 @@
 -- What the set of a label means: it has exactly the valuations in which the label holds (`meaning`), and it is empty exactly if no valuation makes the label true
 -- (`satisfiable`). Each set is followed digit by digit. Assumes nothing.
-use mathlib.Core.Bool.{Bool, true, false, not, cond, _&&_, _||_}
+use mathlib.Core.Bool.{Bool, true, false, not, cond, _&&_, _||_, false≢true}
 use mathlib.Core.List.{List, [], _∷_}
 use mathlib.Core.Logic.{_↔_, _≢_}
 use mathlib.Core.Path.{_≡_, refl, sym, ap, subst, _∙_}
 use Prim.Native.Nat.{ℕ, zero, suc, _+_, _-_, _*_, _/_, _%_, _^_, _≤_, _<_, min, max}
-use native.Mathlib.Nat.{div-eq-of-lt}
+use native.Mathlib.Nat.{div-eq-of-lt, pow-suc}
 use native.Mathlib.Omega.{arith}
 use borrow.Author.Tests.{eqb-true, eq-eqb, lt-ltb, le-ltb}
 use lib.Bits.{bitAnd, bitOr, bitXor, and-lt, or-lt, xor-lt}
-use lib.Dec.{eqb, ltb, T, eqb→eq}
+use lib.Dec.{eqb, ltb, T, eqb→eq, ltb→lt}
 use lib.Pow.{pow-pos}
 use Rattle.marks.specs.Mark.{has}
 use Rattle.marks.proofs.Cases.{below}
@@ -123,3 +123,127 @@ module _ (a v : ℕ) (six : a ≤ 6) (h : v < 64) where
     factor-digit (nested l) n f =
         turned-digit n (labelHolds l (valuation v)) (labelSet l)
         (or-digit (orsOf l 0) (lastOf l) v ∙ label-digit l 0 f ∙ omega (arith, none-digit))
+
+-- ---- a set fits its word
+
+all-small : T (all 6 (λ i. ltb (propSet i) (2 ^ 64)))
+unfolding propSet
+all-small = tt
+
+prop-small : (i : ℕ) → i < 6 → propSet i < 2 ^ 64
+prop-small i h = ltb→lt _ _ (all-at 6 (λ j. ltb (propSet j) (2 ^ 64)) all-small i h)
+
+turned-small : (n : Bool) (x : ℕ) → x < 2 ^ 64 → turned n x < 2 ^ 64
+turned-small false x h = h
+turned-small true x h = xor-lt 64 full x (omega arith) h
+
+module _ (a : ℕ) (six : a ≤ 6) where
+  mutual
+    unfolding orsOf labelFits
+    ors-small : (l : Label) (o : ℕ) → labelFits l a → o < 2 ^ 64 → orsOf l o < 2 ^ 64
+    ors-small (conj c) o f h = h
+    ors-small (or c l) o f h = ors-small l (bitOr o (andsOf c full)) (f .1) (or-lt 64 o (andsOf c full) h (ands-small c full (f .0) (omega arith)))
+
+    last-small : (l : Label) → labelFits l a → lastOf l < 2 ^ 64
+    last-small (conj c) f = ands-small c full f (omega arith)
+    last-small (or c l) f = last-small l (f .1)
+
+    ands-small : (c : Lconj) (k : ℕ) → conjFits c a → k < 2 ^ 64 → andsOf c k < 2 ^ 64
+    ands-small (factor x) k f h = and-lt 64 k (setOf x false) h (set-small x false f)
+    ands-small (and x c) k f h = ands-small c (bitAnd k (setOf x false)) (f .1) (and-lt 64 k (setOf x false) h (set-small x false (f .0)))
+
+    set-small : (x : Lfactor) (n : Bool) → factorFits x a → setOf x n < 2 ^ 64
+    set-small truth n f = turned-small n full (omega arith)
+    set-small falsity n f = turned-small n 0 (omega arith)
+    set-small (prop i) n f = turned-small n (propSet i) (prop-small i (omega arith))
+    set-small alias n f = absurd f
+    set-small (negated x) n f = set-small x (not n) f
+    set-small (nested l) n f = turned-small n (labelSet l) (or-lt 64 (orsOf l 0) (lastOf l) (ors-small l 0 f (omega arith)) (last-small l f))
+
+  -- ---- the theorems
+
+  holds-digit : (p : Bool) (x : ℕ) → x ≡ digit p → (x ≡ 1) ↔ (p ≡ true)
+  holds-digit true x e = (λ q. refl, λ q. e)
+  holds-digit false x e = (λ (q : x ≡ 1). absurd (omega arith), λ q. absurd (false≢true q))
+
+  -- the set of a label with a propositions, at most 6, has exactly the valuations in which it holds
+  pub meaning : (l : Label) → labelFits l a → SetOf l (labelSet l)
+  unfolding has
+  meaning l f =
+      record {
+        small = or-lt 64 (orsOf l 0) (lastOf l) (ors-small l 0 f (omega arith)) (last-small l f);
+        each = λ v h.
+          holds-digit (labelHolds l (valuation v)) (labelSet l / 2 ^ v % 2)
+          (or-digit (orsOf l 0) (lastOf l) v ∙ label-digit a v six h l 0 f ∙ omega (arith, none-digit a v six h)) }
+
+-- ---- whether it is empty
+
+module _ (a : ℕ) (f g : ℕ → Bool) (alike : (i : ℕ) → i < a → f i ≡ g i) where
+  mutual
+    unfolding labelFits labelHolds
+    label-alike : (l : Label) → labelFits l a → labelHolds l f ≡ labelHolds l g
+    label-alike (conj c) h = conj-alike c h
+    label-alike (or c l) h = cc (conj-alike c (h .0), label-alike l (h .1))
+
+    conj-alike : (c : Lconj) → conjFits c a → conjHolds c f ≡ conjHolds c g
+    conj-alike (factor x) h = factor-alike x h
+    conj-alike (and x c) h = cc (factor-alike x (h .0), conj-alike c (h .1))
+
+    factor-alike : (x : Lfactor) → factorFits x a → factorHolds x f ≡ factorHolds x g
+    factor-alike truth h = refl
+    factor-alike falsity h = refl
+    factor-alike (prop i) h = alike i h
+    factor-alike alias h = refl
+    factor-alike (negated x) h = ap not (factor-alike x h)
+    factor-alike (nested l) h = label-alike l h
+
+-- the number of a valuation of n propositions
+number : ℕ → (ℕ → Bool) → ℕ
+number zero f = 0
+number (suc n) f = digit (f 0) + number n (λ i. f (suc i)) * 2
+
+number-small : (n : ℕ) (f : ℕ → Bool) → number n f < 2 ^ n
+unfolding number
+number-small zero f = omega arith
+number-small (suc n) f = omega (arith, number-small n (λ i. f (suc i)), digit-small (f 0), pow-suc 2 n)
+
+number-digit : (n : ℕ) (f : ℕ → Bool) (i : ℕ) → i < n → number n f / 2 ^ i % 2 ≡ digit (f i)
+unfolding number
+number-digit zero f i h = absurd (omega arith)
+number-digit (suc n) f zero h = omega (arith, digit-small (f 0))
+number-digit (suc n) f (suc i) h =
+    let e : number (suc n) f / 2 ≡ number n (λ j. f (suc j)) = omega (arith, digit-small (f 0)) in
+    sym (half-digit (number (suc n) f) i) ∙ ap (λ (y : ℕ). y / 2 ^ i % 2) e ∙ number-digit n (λ j. f (suc j)) i (omega arith)
+
+digit-is : (p : Bool) → eqb (digit p) 1 ≡ p
+digit-is true = refl
+digit-is false = refl
+
+number-is : (n : ℕ) (f : ℕ → Bool) (i : ℕ) → i < n → valuation (number n f) i ≡ f i
+unfolding valuation
+number-is n f i h = ap (λ (d : ℕ). eqb d 1) (number-digit n f i h) ∙ digit-is (f i)
+
+-- the valuation, false from a on
+cut-off : ℕ → (ℕ → Bool) → ℕ → Bool
+cut-off a f i = cond (ltb i a) (f i) false
+
+-- the set has a valuation exactly if some valuation of the a propositions makes the label true
+pub satisfiable : (a : ℕ) (l : Label) (x : ℕ) → a ≤ 6 → labelFits l a → SetOf l x → (x ≢ 0) ↔ Satisfiable a l
+unfolding cut-off
+satisfiable a l x six f s = (to, from)
+  where
+    to : x ≢ 0 → Satisfiable a l
+    to n =
+        let m = some-mark x n in
+        record {
+          values = cut-off a (valuation (m .0));
+          of-a = λ i h. rw (le-ltb i a h);
+          makes-true =
+            label-alike a (cut-off a (valuation (m .0))) (valuation (m .0)) (λ i h. rw (lt-ltb i a h)) l f
+            ∙ s .each (m .0) (has-fits 64 (m .0) x (s .small) (m .1)) .0 (m .1) }
+
+    from : Satisfiable a l → x ≢ 0
+    from y e =
+        let v = number 6 (y .values) in
+        let holds : labelHolds l (valuation v) ≡ true = label-alike a (valuation v) (y .values) (λ i h. number-is 6 (y .values) i (omega arith)) l f ∙ y .makes-true in
+        has-none v (subst (has v) e (s .each v (number-small 6 (y .values)) .1 holds))

@@ -80,7 +80,7 @@ flipped false p = p
 
 module _ (a v : ℕ) (six : a ≤ 6) (h : v < 64) where
   full-digit : full / 2 ^ v % 2 ≡ 1
-  unfolding has
+  unfolding has full
   full-digit = has-ones v 64 .1 h
 
   none-digit : 0 / 2 ^ v % 2 ≡ 0
@@ -126,6 +126,10 @@ module _ (a v : ℕ) (six : a ≤ 6) (h : v < 64) where
 
 -- ---- a set fits its word
 
+full-small : full < 2 ^ 64
+unfolding full
+full-small = omega arith
+
 all-small : T (all 6 (λ i. ltb (propSet i) (2 ^ 64)))
 unfolding propSet
 all-small = tt
@@ -135,17 +139,17 @@ prop-small i h = ltb→lt _ _ (all-at 6 (λ j. ltb (propSet j) (2 ^ 64)) all-sma
 
 turned-small : (n : Bool) (x : ℕ) → x < 2 ^ 64 → turned n x < 2 ^ 64
 turned-small false x h = h
-turned-small true x h = xor-lt 64 full x (omega arith) h
+turned-small true x h = xor-lt 64 full x full-small h
 
 module _ (a : ℕ) (six : a ≤ 6) where
   mutual
     unfolding orsOf labelFits
     ors-small : (l : Label) (o : ℕ) → labelFits l a → o < 2 ^ 64 → orsOf l o < 2 ^ 64
     ors-small (conj c) o f h = h
-    ors-small (or c l) o f h = ors-small l (bitOr o (andsOf c full)) (f .1) (or-lt 64 o (andsOf c full) h (ands-small c full (f .0) (omega arith)))
+    ors-small (or c l) o f h = ors-small l (bitOr o (andsOf c full)) (f .1) (or-lt 64 o (andsOf c full) h (ands-small c full (f .0) full-small))
 
     last-small : (l : Label) → labelFits l a → lastOf l < 2 ^ 64
-    last-small (conj c) f = ands-small c full f (omega arith)
+    last-small (conj c) f = ands-small c full f full-small
     last-small (or c l) f = last-small l (f .1)
 
     ands-small : (c : Lconj) (k : ℕ) → conjFits c a → k < 2 ^ 64 → andsOf c k < 2 ^ 64
@@ -153,7 +157,7 @@ module _ (a : ℕ) (six : a ≤ 6) where
     ands-small (and x c) k f h = ands-small c (bitAnd k (setOf x false)) (f .1) (and-lt 64 k (setOf x false) h (set-small x false (f .0)))
 
     set-small : (x : Lfactor) (n : Bool) → factorFits x a → setOf x n < 2 ^ 64
-    set-small truth n f = turned-small n full (omega arith)
+    set-small truth n f = turned-small n full full-small
     set-small falsity n f = turned-small n 0 (omega arith)
     set-small (prop i) n f = turned-small n (propSet i) (prop-small i (omega arith))
     set-small alias n f = absurd f

@@ -22,22 +22,23 @@ use Rattle.hoa_label.specs.Label.{mostLevels}
 -- ---- sets of valuations
 
 -- all 64 valuations
-abbrev pub full : ℕ
+unfoldable pub full : ℕ
 full = 2 ^ 64 - 1
 
--- the valuations in which a proposition is true: v is one for proposition i if bit i of v is 1; none from 6 on
-unfoldable pub propSet : ℕ → ℕ
-propSet i =
-    getD
-    (
+-- for each proposition the valuations in which it is true: v is one for proposition i if bit i of v is 1
+abbrev pub propSets : List ℕ
+propSets =
     0xAAAAAAAAAAAAAAAA
     ∷ 0xCCCCCCCCCCCCCCCC
     ∷ 0xF0F0F0F0F0F0F0F0
     ∷ 0xFF00FF00FF00FF00
     ∷ 0xFFFF0000FFFF0000
     ∷ 0xFFFFFFFF00000000
-    ∷ [])
-    i 0
+    ∷ []
+
+-- none from the seventh proposition on
+unfoldable pub propSet : ℕ → ℕ
+propSet i = getD propSets i 0
 
 -- the set, or the valuations outside it
 abbrev pub turned : Bool → ℕ → ℕ

@@ -12,3 +12,5 @@ pub mod Strings
 pub mod Numbers
 -- Fronts: the token at a place, by the byte that stands there
 pub mod Fronts
+-- Founds: what each form reads is the token of the rule
+pub mod Founds

@@ -1,65 +1,71 @@
+-- `front::fixed` meets its contract: its tests are the rule's, in the rule's order. Assumes nothing.
+use mathlib.Core.Path.{sym, _∙_}
+use denote.Ref.{now}
+use Rattle.hoa_tokens.specs.Bytes.{bytes}
+use Rattle.hoa_tokens.proofs.Founds.{fixed-body, fixed-end, fixed-abort, fixed-none}
 use borrow.Author.Needs.{needs}
 use Rattle.hoa_tokens.proofs.front.fixed.Statement.{statement}
 use Rattle.hoa_tokens.proofs.front.fixed.Tie as tie
-use Rattle.hoa_tokens.proofs.front.fixed.Reads as reads
-use Rattle.hoa_tokens.proofs.front.fixed.Lts as lts
-use Rattle.hoa_tokens.proofs.front.begins.Reads as begins-reads
 
--- src/front.rt:34:25
 slice-aggregate-begins : tie.Need-slice-aggregate-begins
 slice-aggregate-begins c = search needs
 
--- src/front.rt:34:8
 begins-requires : tie.Need-begins-requires
 begins-requires c κs = search needs
 
--- src/front.rt:37:19
 add-t9 : tie.Need-add-t9
 add-t9 c = search needs
 
--- src/front.rt:35:9
 returns : tie.Need-returns
-returns c = ?
+unfolding bytes
+returns c =
+    let a = c .before .before .before .before .args in
+    fixed-body (now (a .text)) (a .at) (sym (c .before .begins .ensures) ∙ c .if1 .taken)
 
--- src/front.rt:41:25
 slice-aggregate-begins-2 : tie.Need-slice-aggregate-begins-2
 slice-aggregate-begins-2 c = search needs
 
--- src/front.rt:41:8
 begins-requires-2 : tie.Need-begins-requires-2
 begins-requires-2 c κs = search needs
 
--- src/front.rt:44:19
 add-t14 : tie.Need-add-t14
 add-t14 c = search needs
 
--- src/front.rt:42:9
 returns-2 : tie.Need-returns-2
-returns-2 c = ?
+unfolding bytes
+returns-2 c =
+    let at-1 = c .before .before .before in
+    let a = at-1 .before .before .before .before .args in
+    fixed-end (now (a .text)) (a .at) (sym (at-1 .before .begins .ensures) ∙ at-1 .if1 .left) (sym (c .before .begins2 .ensures) ∙ c .if2 .taken)
 
--- src/front.rt:48:25
 slice-aggregate-begins-3 : tie.Need-slice-aggregate-begins-3
 slice-aggregate-begins-3 c = search needs
 
--- src/front.rt:48:8
 begins-requires-3 : tie.Need-begins-requires-3
 begins-requires-3 c κs = search needs
 
--- src/front.rt:51:19
 add-t19 : tie.Need-add-t19
 add-t19 c = search needs
 
--- src/front.rt:49:9
 returns-3 : tie.Need-returns-3
-returns-3 c = ?
+unfolding bytes
+returns-3 c =
+    let at-2 = c .before .before .before in
+    let at-1 = at-2 .before .before .before in
+    let a = at-1 .before .before .before .before .args in
+    fixed-abort (now (a .text)) (a .at) (sym (at-1 .before .begins .ensures) ∙ at-1 .if1 .left) (sym (at-2 .before .begins2 .ensures) ∙ at-2 .if2 .left) (sym (c .before .begins3 .ensures) ∙ c .if3 .taken)
 
--- src/front.rt:57:15
 add-t21 : tie.Need-add-t21
 add-t21 c = search needs
 
--- src/front.rt:30:1
 returns-4 : tie.Need-returns-4
-returns-4 c = ?
+unfolding bytes
+returns-4 c =
+    let at-3 = c in
+    let at-2 = at-3 .before .before .before in
+    let at-1 = at-2 .before .before .before in
+    let a = at-1 .before .before .before .before .args in
+    fixed-none (now (a .text)) (a .at) (sym (at-1 .before .begins .ensures) ∙ at-1 .if1 .left) (sym (at-2 .before .begins2 .ensures) ∙ at-2 .if2 .left) (sym (at-3 .before .begins3 .ensures) ∙ at-3 .if3 .left)
 
 pub fixed-spec : {M : Type 1} → statement M
 fixed-spec =

@@ -1,52 +1,51 @@
+-- `name::named` meets its contract: the byte behind the run decides between a header and a word. Assumes nothing.
+use mathlib.Core.Path.{sym, _∙_}
+use denote.Ref.{now}
+use Rattle.hoa_tokens.proofs.Founds.{header-found, word-found, colon-in}
 use borrow.Author.Needs.{needs}
+use native.Mathlib.Omega.{arith}
 use Rattle.hoa_tokens.proofs.name.named.Statement.{statement}
 use Rattle.hoa_tokens.proofs.name.named.Tie as tie
-use Rattle.hoa_tokens.proofs.name.named.Reads as reads
-use Rattle.hoa_tokens.proofs.name.named.Lts as lts
-use Rattle.hoa_tokens.proofs.bytes.run_end.Reads as run-end-reads
-use Rattle.hoa_tokens.proofs.name.has_colon.Reads as has-colon-reads
-use Rattle.hoa_tokens.proofs.name.header_of.Reads as header-of-reads
-use Rattle.hoa_tokens.proofs.name.word_of.Reads as word-of-reads
 
--- src/name.rt:114:9
 run-end-requires : tie.Need-run-end-requires
 run-end-requires c κs = search needs
 
--- src/name.rt:115:16
 sub-name : tie.Need-sub-name
 sub-name c = search needs
 
--- src/name.rt:115:16
 part-name-start : tie.Need-part-name-start
 part-name-start c = search needs
 
--- src/name.rt:115:16
 part-name-end : tie.Need-part-name-end
-part-name-end c = ?
+part-name-end c = omega (arith, c .run-end .ensures .high (c .before .before .pre))
 
--- src/name.rt:116:8
 has-colon-requires : tie.Need-has-colon-requires
 has-colon-requires c κs = search needs
 
--- src/name.rt:119:19
 add-t10 : tie.Need-add-t10
-add-t10 c = ?
+add-t10 c = omega (arith, colon-in (now (c .before .before .before .before .before .args .text)) (c .before .before .before .run-end .result) (sym (c .before .has-colon .ensures) ∙ c .if1 .taken))
 
--- src/name.rt:120:32
 header-of-requires : tie.Need-header-of-requires
 header-of-requires c κs = search needs
 
--- src/name.rt:117:9
 returns : tie.Need-returns
-returns c = ?
+returns c =
+    let at-colon = c .before .before in
+    let at-run = at-colon .before .before in
+    let a = at-run .before .before .args in
+    header-found (now (a .text)) (a .at) (at-run .run-end .result) (c .header-of .result) (at-run .run-end .ensures)
+    (sym (at-colon .has-colon .ensures) ∙ c .before .if1 .taken) (c .header-of .ensures)
 
--- src/name.rt:126:26
 word-of-requires : tie.Need-word-of-requires
 word-of-requires c κs = search needs
 
--- src/name.rt:110:1
 returns-2 : tie.Need-returns-2
-returns-2 c = ?
+returns-2 c =
+    let at-colon = c .before .before in
+    let at-run = at-colon .before .before in
+    let a = at-run .before .before .args in
+    word-found (now (a .text)) (a .at) (at-run .run-end .result) (c .word-of .result) (at-run .run-end .ensures)
+    (sym (at-colon .has-colon .ensures) ∙ c .before .if1 .left) (c .word-of .ensures)
 
 pub named-spec : {M : Type 1} → statement M
 named-spec =

@@ -1,33 +1,28 @@
+-- `number::digits_kind` meets its contract: several digits with a zero in front are no number, and of all others the value decides. Assumes nothing.
+use mathlib.Core.Path.{sym, _∙_}
+use denote.Ref.{now}
+use Rattle.hoa_tokens.proofs.Numbers.{digits-short, digits-long, digits-zero}
 use borrow.Author.Needs.{needs}
 use Rattle.hoa_tokens.proofs.number.digits_kind.Statement.{statement}
 use Rattle.hoa_tokens.proofs.number.digits_kind.Tie as tie
-use Rattle.hoa_tokens.proofs.number.digits_kind.Reads as reads
-use Rattle.hoa_tokens.proofs.number.digits_kind.Lts as lts
-use Rattle.hoa_tokens.proofs.number.spell.Reads as spell-reads
 
--- src/number.rt:46:9
 spell-requires : tie.Need-spell-requires
 spell-requires c κs = search needs
 
--- src/number.rt:46:9
 returns : tie.Need-returns
-returns c = ?
+returns c = record { says = λ text a b. c .spell .ensures .says text a b ∙ sym (digits-short (now (c .before .before .before .args .digits)) (c .before .if1 .taken)) }
 
--- src/number.rt:48:8
 shared-slice-read-if2 : tie.Need-shared-slice-read-if2
 shared-slice-read-if2 c = search needs
 
--- src/number.rt:49:9
 returns-2 : tie.Need-returns-2
-returns-2 c = ?
+returns-2 c = record { says = λ text a b. sym (digits-zero (now (c .before .before .before .before .args .digits)) (c .before .before .if1 .left) (c .if2 .taken)) }
 
--- src/number.rt:51:5
 spell-requires-2 : tie.Need-spell-requires-2
 spell-requires-2 c κs = search needs
 
--- src/number.rt:42:1
 returns-3 : tie.Need-returns-3
-returns-3 c = ?
+returns-3 c = record { says = λ text a b. c .spell2 .ensures .says text a b ∙ sym (digits-long (now (c .before .before .before .before .before .args .digits)) (c .before .if2 .left)) }
 
 pub digits-kind-spec : {M : Type 1} → statement M
 digits-kind-spec =

@@ -1,37 +1,41 @@
+-- `string::string` meets its contract: the string ends with its closing quote, or is open to the text's end. Assumes nothing.
+use Prim.Native.Nat.{_+_}
+use denote.Ref.{now}
+use Rattle.hoa_tokens.proofs.Founds.{quote-within, string-closed, string-open}
 use borrow.Author.Needs.{needs}
+use native.Mathlib.Omega.{arith}
 use Rattle.hoa_tokens.proofs.string.string.Statement.{statement}
 use Rattle.hoa_tokens.proofs.string.string.Tie as tie
-use Rattle.hoa_tokens.proofs.string.string.Reads as reads
-use Rattle.hoa_tokens.proofs.string.string.Lts as lts
-use Rattle.hoa_tokens.proofs.string.quote_from.Reads as quote-from-reads
 
--- src/string.rt:49:28
 add-quote-from : tie.Need-add-quote-from
 add-quote-from c = search needs
 
--- src/string.rt:49:11
 quote-from-requires : tie.Need-quote-from-requires
 quote-from-requires c κs = search needs
 
--- src/string.rt:50:19
 enum-known-i : tie.Need-enum-known-i
 enum-known-i c = search needs
 
--- src/string.rt:52:19
 add-t7 : tie.Need-add-t7
-add-t7 c = ?
+add-t7 c =
+    let at-quote = c .before .before .before in
+    let a = at-quote .before .before .args in
+    omega (arith, quote-within (now (a .text)) (a .at + 1) (c .before .i .given .0 .0) (rw (c .before .i .given .1) at (at-quote .quote-from .ensures .is)))
 
--- src/string.rt:57:19
 enum-told : tie.Need-enum-told
 enum-told c = search needs
 
--- src/string.rt:45:1
 returns : tie.Need-returns
-returns c = ?
+returns c =
+    let at-quote = c .before .before .before in
+    let a = at-quote .before .before .args in
+    string-closed (now (a .text)) (a .at) (c .before .i .given .0 .0) (rw (c .before .i .given .1) at (at-quote .quote-from .ensures .is))
 
--- src/string.rt:45:1
 returns-2 : tie.Need-returns-2
-returns-2 c = ?
+returns-2 c =
+    let at-quote = c .before .before in
+    let entry = at-quote .before .before in
+    string-open (now (entry .args .text)) (entry .args .at) (entry .pre) (rw (c .enum-told .given .1) at (at-quote .quote-from .ensures .is))
 
 pub string-spec : {M : Type 1} → statement M
 string-spec =

@@ -14,3 +14,7 @@ pub mod Numbers
 pub mod Fronts
 -- Founds: what each form reads is the token of the rule
 pub mod Founds
+-- Unique: two tokens that are found at one place are the same
+pub mod Unique
+-- Examples: the rules' own examples, computed from the definitions
+pub mod Examples

@@ -1,0 +1,16 @@
+-- Sets: the set of valuations that a label's tokens add up to
+pub mod Sets
+-- Walks: laws of a walk over tokens
+pub mod Walks
+-- Complete: every label is read to its end, with its set
+pub mod Complete
+-- Sound: what is read to its end is a label
+pub mod Sound
+-- Faults: which token is faulty, and with which number
+pub mod Faults
+-- Meaning: what the set of a label means
+pub mod Meaning
+-- Told: what a token is by its kind
+pub mod Told
+-- Runs: the run over a text's tokens, one token at a time
+pub mod Runs

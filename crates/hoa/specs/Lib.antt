@@ -6,3 +6,5 @@ pub mod Subset
 pub mod Walk
 -- Reading: tokens from the left, to the faulty one or to what the text says
 pub mod Reading
+-- Returned: what comes back, and what the lent tables hold
+pub mod Returned

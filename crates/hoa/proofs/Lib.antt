@@ -6,3 +6,7 @@ pub mod Takes
 pub mod Heads
 -- HeadSound: what is walked to behind `--BODY--` is a header of the subset
 pub mod HeadSound
+-- RowTakes: which edges and rows fit behind what was read
+pub mod RowTakes
+-- RowSound: what is walked from behind `--BODY--` is rows of the subset
+pub mod RowSound

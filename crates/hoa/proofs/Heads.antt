@@ -26,16 +26,12 @@ use Rattle.hoa.specs.Doc as doc
 use Rattle.hoa.specs.Doc.{Conj, Hint, hintWord, hintInt, Extra, extraWord, extraInt, extraText, Item, itemText, itemsText, hintsText, extrasText, wordsText, stringsText, perhapsText}
 use Rattle.hoa.specs.Subset.{Each, eachNone, eachMore, Differ, differNone, differMore, StandardAs}
 use Rattle.hoa.specs.Walk.{Walk, going, over, faulty, walkBy, walk}
+use Rattle.hoa.proofs.Onward.{Onward, same, limit, by-limit, onward-then, onward-more}
 use Rattle.hoa.proofs.Names.{same-ne}
 use Rattle.hoa.proofs.Takes.{Takes, takesStates, takesStart, takesProps, takesAcceptance, takesAccName, takesTool, takesName, takesProperties, takesLower, ItemLimit, TakesAll, takesNone, takesMore}
 
 abbrev HeadWalk : Type 0
 HeadWalk = Walk HeadState Head
-
--- what stands in front is passed, or a limit L is
-pub data Onward (L : Type 0) (w w' : HeadWalk) : Type 0 where
-  same : w ≡ w' → Onward L w w'
-  limit : (L → ⊥) → (ts : List Token) → w ≡ faulty 42 ts → Onward L w w'
 
 -- a token that may begin an item, or `--BODY--`
 pub data Opens : Token → Type 0 where
@@ -122,16 +118,6 @@ pass-names h a t rest o seen (n ∷ ns) (eachMore e es) (differMore d ds) l =
 
 -- ---- items
 
--- the limit test of a number
-by-limit : {L : Type 0} (over : Bool) (s : HeadState) (ts : List Token) (more : HeadState → HeadWalk) → (over ≡ true → L → ⊥)
-    → Onward L (walkBy (cond over (wrong 42) (go s)) ts more) (more s)
-by-limit true s ts more n = limit (n refl) ts refl
-by-limit false s ts more n = same refl
-
-onward-then : {L : Type 0} {w w' w'' : HeadWalk} → Onward L w w' → w' ≡ w'' → Onward L w w''
-onward-then (same e) q = same (e ∙ q)
-onward-then (limit n ts e) q = limit n ts e
-
 -- each item leads on as it fits
 pub item-walk : (h h' : Head) (i : Item) (t : Token) (rest : List Token) → Opens t → (f : Takes h i h')
     → Onward (ItemLimit f) (walk headStep (itemText i (t ∷ rest)) (items h)) (walk headStep (t ∷ rest) (items h'))
@@ -188,11 +174,6 @@ items-front (i ∷ is) ts = item-front i (itemsText is (body ∷ ts))
 unfoldable pub AllLimits : {h h' : Head} {is : List Item} → TakesAll h is h' → Type 0
 AllLimits (takesNone e) = Unit {0}
 AllLimits (takesMore f fs) = ItemLimit f × AllLimits fs
-
-onward-more : {L M : Type 0} {w w' w'' : HeadWalk} → Onward L w w' → Onward M w' w'' → Onward (L × M) w w''
-onward-more (same e) (same q) = same (e ∙ q)
-onward-more (same e) (limit n ts q) = limit (λ l. n (l .1)) ts (e ∙ q)
-onward-more (limit n ts e) _ = limit (λ l. n (l .0)) ts e
 
 -- the items lead on as they fit
 pub items-walk : (h h' : Head) (is : List Item) (rest : List Token) (fs : TakesAll h is h')

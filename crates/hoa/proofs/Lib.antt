@@ -1,3 +1,5 @@
+-- Onward: a stretch leads on, or passes a limit
+pub mod Onward
 -- Names: the same bytes
 pub mod Names
 -- Takes: which items and rows fit behind what was read
@@ -10,3 +12,5 @@ pub mod HeadSound
 pub mod RowTakes
 -- RowSound: what is walked from behind `--BODY--` is rows of the subset
 pub mod RowSound
+-- RowWalks: edges and rows are walked as they fit
+pub mod RowWalks

@@ -49,9 +49,16 @@ module _ (text : List ℕ) (i : ℕ) (l : i < length text) where
           unfolding front
           front-single e = rw (here text i l, d, n, ne-eqb byte 34 q, ne-eqb byte 64 a, ne-eqb byte 45 e)
 
--- no mark
-pub sign-none : (b : ℕ) → (b ≡ 40 → ⊥) → (b ≡ 41 → ⊥) → (b ≡ 91 → ⊥) → (b ≡ 93 → ⊥) → (b ≡ 123 → ⊥) → (b ≡ 125 → ⊥) → (b ≡ 38 → ⊥) → (b ≡ 124 → ⊥) → (b ≡ 33 → ⊥)
-    → signOf b ≡ none
+-- none of the marks, as a `match` on them leaves it
+abbrev pub NoMark : ℕ → Type 0
+NoMark b =
+    ((((((((Unit {0} × (b ≡ 40 → ⊥)) × (b ≡ 41 → ⊥)) × (b ≡ 91 → ⊥)) × (b ≡ 93 → ⊥)) × (b ≡ 123 → ⊥)) × (b ≡ 125 → ⊥)) × (b ≡ 38 → ⊥)) × (b ≡ 124 → ⊥)) × (b ≡ 33 → ⊥)
+
+pub sign-none : (b : ℕ) → NoMark b → signOf b ≡ none
 unfolding signOf
-sign-none b p q r s t u v w x =
-    rw (ne-eqb b 40 p, ne-eqb b 41 q, ne-eqb b 91 r, ne-eqb b 93 s, ne-eqb b 123 t, ne-eqb b 125 u, ne-eqb b 38 v, ne-eqb b 124 w, ne-eqb b 33 x)
+sign-none b n =
+    let brackets = n .0 .0 .0 in
+    let round = brackets .0 .0 .0 .0 in
+    rw (ne-eqb b 40 (round .0 .1), ne-eqb b 41 (round .1))
+    (rw (ne-eqb b 91 (brackets .0 .0 .0 .1), ne-eqb b 93 (brackets .0 .0 .1), ne-eqb b 123 (brackets .0 .1), ne-eqb b 125 (brackets .1))
+    (rw (ne-eqb b 38 (n .0 .0 .1), ne-eqb b 124 (n .0 .1), ne-eqb b 33 (n .1))))

@@ -65,7 +65,7 @@ wordOf bs =
 abbrev pub unknown : List ℕ → Header
 unknown bs = cond (isCapital (getD bs 0 0)) header-is.Capital header-is.Lower
 
--- the headers that may be left out
+-- the headers of hints and names, and those that the grammar does not know
 unfoldable pub furtherHeader : List ℕ → Header
 furtherHeader bs =
     among

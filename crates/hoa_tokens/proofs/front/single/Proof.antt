@@ -43,7 +43,7 @@ unfolding signOf
 returns-9 c = record { says = λ text a b. rw (c .match .keys9) }
 
 returns-10 : tie.Need-returns-10
-returns-10 c = record { says = λ text a b. rw (sign-none (c .before .args .byte) (c .match .rest .0 .0 .0 .0 .0 .0 .0 .0 .1) (c .match .rest .0 .0 .0 .0 .0 .0 .0 .1) (c .match .rest .0 .0 .0 .0 .0 .0 .1) (c .match .rest .0 .0 .0 .0 .0 .1) (c .match .rest .0 .0 .0 .0 .1) (c .match .rest .0 .0 .0 .1) (c .match .rest .0 .0 .1) (c .match .rest .0 .1) (c .match .rest .1)) }
+returns-10 c = record { says = λ text a b. rw (sign-none (c .before .args .byte) (c .match .rest)) }
 
 pub single-spec : {M : Type 1} → statement M
 single-spec =

@@ -104,6 +104,34 @@ token-takes text at f h n = go (found-stands text at f h)
     go (over e _ _) = absurd (n (finish-kind text (f .first) (f .next) (f .kind) e))
     go (there _ a b c) = record { behind-at = a; takes = b; within = omega (arith, length-drop at text) }
 
+unfinished : (t : Token) (ps : List Placed) → ends t ≡ false → unlessFinished t ps ≡ ps
+unfinished finish ps e = absurd (false≢true (sym e))
+unfinished (int n) ps e = refl
+unfinished (word w) ps e = refl
+unfinished (header h) ps e = refl
+unfinished (str bs) ps e = refl
+unfinished aname ps e = refl
+unfinished (sign s) ps e = refl
+unfinished body ps e = refl
+unfinished end ps e = refl
+unfinished abort ps e = refl
+unfinished bad ps e = refl
+
+-- behind any other token the tokens go on
+pub token-goes-on : (text : List ℕ) (at : ℕ) (f : Found) → TokenAt text at f → (f .kind ≡ kind-is.Finish → ⊥)
+    → tokensAt text at ≡ placed (f .first) (f .next) (tokenOf text (f .first) (f .next) (f .kind)) ∷ tokensAt text (f .next)
+token-goes-on text at f h n = go (found-stands text at f h)
+  where
+    go : Stands at (length (drop at text)) (placed (f .first) (f .next) (tokenOf text (f .first) (f .next) (f .kind)))
+        → tokensAt text at ≡ placed (f .first) (f .next) (tokenOf text (f .first) (f .next) (f .kind)) ∷ tokensAt text (f .next)
+    go (over e _ _) = absurd (n (finish-kind text (f .first) (f .next) (f .kind) e))
+    go (there e _ _ _) = tokens-next text at f h ∙ rw (unfinished (tokenOf text (f .first) (f .next) (f .kind)) (tokensAt text (f .next)) e)
+
+-- the text's end is the last
+pub token-last : (text : List ℕ) (at : ℕ) (f : Found) → TokenAt text at f → f .kind ≡ kind-is.Finish
+    → tokensAt text at ≡ placed (f .first) (f .next) finish ∷ []
+token-last text at f h k = tokens-next text at f h ∙ rw k
+
 -- the text's end stands at its end
 pub token-ends : (text : List ℕ) (at : ℕ) (f : Found) → TokenAt text at f → f .kind ≡ kind-is.Finish → at ≤ length text
     → (f .first ≡ length text) × (f .next ≡ length text)

@@ -6,9 +6,9 @@ use Rattle.hoa_tokens.specs.declared.Word.the-variants as word-is
 use Rattle.hoa_tokens.specs.declared.Header.the-variants as header-is
 use Rattle.hoa_tokens.specs.declared.Sign.the-variants as sign-is
 use Rattle.hoa_tokens.specs.Bytes.{bytes, same, isDigit, isCapital, isLetter, isName, isBlank, run}
-use Rattle.hoa_tokens.specs.Token.{Token, int, word, header, str, aname, sign, body, end, abort, finish, bad}
+use Rattle.hoa_tokens.specs.Token.{Token, int, word, header, str, aname, sign, body, finish, bad}
 use Rattle.hoa_tokens.specs.Token.{wordOf, furtherHeader, headerOf, spelt, isInt, number, named, quoted, at, fixed, signOf, front}
-use Rattle.hoa_tokens.specs.Stream.{gapOf, Placed, placed, first, some, tokensAt}
+use Rattle.hoa_tokens.specs.Stream.{gapOf, Placed, first, some, tokensAt}
 
 -- the tokens of a text, without where they end
 abbrev pub seen : List Placed → List (ℕ × Token)

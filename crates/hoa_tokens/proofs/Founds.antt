@@ -1,9 +1,9 @@
 -- What is found is the token of the rule: each form at its place, and the token behind a gap. Assumes nothing.
 use mathlib.Core.Path.{_≡_, refl, sym, ap, _∙_}
-use mathlib.Core.Bool.{Bool, true, false, cond}
-use mathlib.Core.List.{List, [], _∷_}
+use mathlib.Core.Bool.{Bool, true, false}
+use mathlib.Core.List.{List}
 use mathlib.Core.Option.{Option, some, none}
-use Prim.Native.Nat.{ℕ, zero, suc, _+_, _-_, _≤_, _<_}
+use Prim.Native.Nat.{ℕ, _+_, _-_, _<_}
 use native.Mathlib.Omega.{arith}
 use lib.Dec.{eqb}
 use lib.ListN.{length, getD, take, drop, length-take, length-drop}
@@ -15,9 +15,9 @@ use Rattle.hoa_tokens.specs.declared.Sign.{Sign}
 use Rattle.hoa_tokens.specs.declared.Kind.{Kind}
 use Rattle.hoa_tokens.specs.declared.Kind.the-variants as kind-is
 use Rattle.hoa_tokens.specs.declared.Found.{Found}
-use Rattle.hoa_tokens.specs.Bytes.{bytes, same, isDigit, isName, run}
-use Rattle.hoa_tokens.specs.Token.{Token, int, str, bad, finish, body, end, abort, Taken, taken, wordOf, headerOf, digits, number, named}
-use Rattle.hoa_tokens.specs.Token.{later, quoted, closed, at as alias, begins, fixed, signOf, single, front}
+use Rattle.hoa_tokens.specs.Bytes.{bytes, isDigit, isName, run}
+use Rattle.hoa_tokens.specs.Token.{Token, bad, finish, taken, wordOf, headerOf, digits, number, named}
+use Rattle.hoa_tokens.specs.Token.{later, quoted, closed, at as alias, begins, fixed, single, front}
 use Rattle.hoa_tokens.specs.Stream.{Gap, gap, unclosed, lost, behind, gapOf, placed, firstOf, first, part, tokenOf, TokenAt}
 use Rattle.hoa_tokens.specs.inner.Reads.{RunTo, Says, Reads, gapFrom}
 use Rattle.hoa_tokens.proofs.Sizes.{GapIn, gap-in, QuoteIn, quote-in, byte-in}

@@ -1,15 +1,13 @@
 -- The token at a place, by the byte that stands there. Assumes nothing.
-use mathlib.Core.Path.{_≡_, refl, sym, ap, _∙_}
-use mathlib.Core.Bool.{Bool, true, false, cond}
-use mathlib.Core.List.{List, [], _∷_}
+use mathlib.Core.Path.{_≡_}
+use mathlib.Core.Bool.{true, false}
+use mathlib.Core.List.{List}
 use mathlib.Core.Option.{none}
 use Prim.Native.Nat.{ℕ, _+_, _≤_, _<_}
-use native.Mathlib.Omega.{arith}
-use lib.Dec.{eqb}
 use lib.ListN.{length, getD, drop, drop-of-length-le}
 use borrow.Author.Tests.{eq-eqb, ne-eqb}
 use Rattle.hoa_tokens.specs.Bytes.{isDigit, isLetter}
-use Rattle.hoa_tokens.specs.Token.{finish, Taken, taken, number, named, quoted, closed, at, fixed, signOf, single, front}
+use Rattle.hoa_tokens.specs.Token.{finish, taken, number, named, quoted, closed, at, fixed, signOf, single, front}
 use Rattle.hoa_tokens.proofs.Runs.{here}
 
 -- no byte

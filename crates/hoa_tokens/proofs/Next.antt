@@ -1,7 +1,7 @@
 -- The tokens of a text from a place on: the one that is found there, and those behind it (`tokens-next`). Each token but the text's end takes a byte
 -- (`token-takes`), and only the text's end is an end (`token-ends`). So fuel does not matter. Assumes nothing.
 use mathlib.Core.Path.{_≡_, refl, sym, ap, _∙_}
-use mathlib.Core.Bool.{Bool, true, false, false≢true}
+use mathlib.Core.Bool.{false, false≢true}
 use mathlib.Core.List.{List, [], _∷_}
 use Prim.Native.Nat.{ℕ, zero, suc, _+_, _-_, _≤_, _<_}
 use native.Mathlib.Omega.{arith}

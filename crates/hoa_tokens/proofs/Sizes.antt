@@ -1,18 +1,17 @@
 -- How many bytes a gap and a token take: never more than there are, and each token but the text's end takes one. Assumes nothing.
-use mathlib.Core.Path.{_≡_, refl, ap, _∙_}
-use mathlib.Core.Bool.{Bool, true, false, false≢true, cond, _&&_, _||_}
+use mathlib.Core.Path.{_≡_, refl, ap}
+use mathlib.Core.Bool.{Bool, true, false, false≢true, _&&_}
 use mathlib.Core.List.{List, [], _∷_}
 use mathlib.Core.Option.{Option, some, none}
-use Prim.Native.Nat.{ℕ, zero, suc, _+_, _-_, _≤_, _<_, zero-le, suc-le-suc}
-use native.Mathlib.Nat.{le-of-suc-le-suc}
+use Prim.Native.Nat.{ℕ, zero, suc, _≤_, _<_, zero-le, suc-le-suc}
 use native.Mathlib.Omega.{arith}
 use lib.Dec.{eqb}
-use lib.ListN.{length, getD, take, drop, length-take, List·getD-eq-default}
-use borrow.Author.Tests.{eq-eqb, ne-eqb, eqb-true, eqb-false}
+use lib.ListN.{length, getD, take, length-take}
+use borrow.Author.Tests.{eqb-true}
 use Rattle.hoa_tokens.specs.declared.Sign.{Sign}
-use Rattle.hoa_tokens.specs.Bytes.{bytes, same, isDigit, isCapital, isLetter, isName, isBlank, run}
+use Rattle.hoa_tokens.specs.Bytes.{bytes, same, isDigit, isLetter, isName, isBlank, run}
 use Rattle.hoa_tokens.specs.Token.{Token, int, word, header, str, aname, sign, body, end, abort, finish, bad, Taken, taken}
-use Rattle.hoa_tokens.specs.Token.{isInt, spelt, digits, number, named, later, quoted, closed, at, begins, fixed, signOf, single, front}
+use Rattle.hoa_tokens.specs.Token.{isInt, digits, number, named, later, quoted, closed, at, begins, fixed, signOf, single, front}
 use Rattle.hoa_tokens.specs.Stream.{Gap, gap, unclosed, lost, behind, opened, gapOf}
 
 -- by a test's outcome

@@ -6,7 +6,7 @@ use Rattle.hoa_tokens.specs.declared.Kind.{Kind}
 use Rattle.hoa_tokens.specs.declared.Kind.the-variants as kind-is
 use Rattle.hoa_tokens.specs.declared.Found.{Found}
 use Rattle.hoa_tokens.specs.Token.{Token, int, word, header, str, aname, sign, body, end, abort, finish, bad}
-use Rattle.hoa_tokens.specs.Stream.{placed, tokenOf, TokenAt}
+use Rattle.hoa_tokens.specs.Stream.{tokenOf, TokenAt}
 
 -- the kind of a token
 kindOf : Token → Kind

@@ -27,6 +27,7 @@ unfolding spelt
 too-large n [] l = rw (le-ltb n intLimit l)
 too-large n (b ∷ ds) l = too-large (n * 10 + (b - 48)) ds (omega arith)
 
+-- a value below the limit
 pub small-enough : (n : ℕ) → n < intLimit → ofValue n ≡ int n
 small-enough n l = rw (lt-ltb n intLimit l)
 

@@ -22,13 +22,13 @@ use Rattle.hoa_head.specs.declared.Piece.the-variants as piece-is
 use Rattle.hoa_head.specs.Head.{mostProps, mostMarks, withStates, withStart, withProps, withMarks, withAccName, withTool, withName}
 use Rattle.hoa_head.specs.Heading.{HeadState, items, statesInt, startInt, propsInt, marksInt, startMore, names, accName, toolText, toolMore, nameText, hints,
   HeadStep, pieceOf, headStep, onPiece, onItem, onBody, once, onStates, onStart, onProps, onNames, onName, behindNames, unfinished, nameCame}
-use Rattle.hoa.specs.Doc as doc
-use Rattle.hoa.specs.Doc.{Conj, Hint, hintWord, hintInt, Extra, extraWord, extraInt, extraText, Item, itemText, itemsText, hintsText, extrasText, wordsText, stringsText, perhapsText}
-use Rattle.hoa.specs.Subset.{Each, eachNone, eachMore, Differ, differNone, differMore, StandardAs}
-use Rattle.hoa.specs.Walk.{Walk, going, over, faulty, walkBy, walk}
-use Rattle.hoa.proofs.Onward.{Onward, same, limit, by-limit, onward-then, onward-more}
-use Rattle.hoa.proofs.Names.{same-ne}
-use Rattle.hoa.proofs.Takes.{Takes, takesStates, takesStart, takesProps, takesAcceptance, takesAccName, takesTool, takesName, takesProperties, takesLower, ItemLimit, TakesAll, takesNone, takesMore}
+use Rattle.hoa_grammar.specs.Doc as doc
+use Rattle.hoa_grammar.specs.Doc.{Conj, Hint, hintWord, hintInt, Extra, extraWord, extraInt, extraText, Item, itemText, itemsText, hintsText, extrasText, wordsText, stringsText, perhapsText}
+use Rattle.hoa_grammar.specs.Subset.{Each, eachNone, eachMore, Differ, differNone, differMore, StandardAs}
+use Rattle.hoa_grammar.specs.Walk.{Walk, going, over, faulty, walkBy, walk}
+use Rattle.hoa_grammar.proofs.Onward.{Onward, same, limit, by-limit, onward-then, onward-more}
+use Rattle.hoa_grammar.proofs.Names.{same-ne}
+use Rattle.hoa_grammar.proofs.Takes.{Takes, takesStates, takesStart, takesProps, takesAcceptance, takesAccName, takesTool, takesName, takesProperties, takesLower, ItemLimit, TakesAll, takesNone, takesMore}
 
 abbrev HeadWalk : Type 0
 HeadWalk = Walk HeadState Head

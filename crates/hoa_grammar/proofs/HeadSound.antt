@@ -32,15 +32,15 @@ use Rattle.hoa_head.specs.Head.{mostProps, mostMarks, blank, withStates, withSt
 use Rattle.hoa_head.specs.Heading.{HeadState, opening, version, items, statesInt, startInt, propsInt, marksInt, startMore, names, inFormula, accName, toolText, toolMore, nameText, hints,
   HeadStep, pieceOf, pieceHeader, pieceSign, headStep, onPiece, onItem, onBody, once, onStates, onStart, onStartMore, onProps, onNames, onName, behindNames, unfinished, nameCame,
   onMarks, onFormula, behindFormula, onAccName, onToolMore, onHints, onOpening, openingHeader, onVersion, versionWord}
-use Rattle.hoa.specs.Doc as doc
-use Rattle.hoa.specs.Doc.{Conj, Hint, hintWord, hintInt, Extra, extraWord, extraInt, extraText, Item, itemText, itemsText, hintsText, extrasText, wordsText, stringsText, perhapsText}
-use Rattle.hoa.specs.Subset.{Each, eachNone, eachMore, Differ, differNone, differMore, StandardAs}
-use Rattle.hoa.specs.Walk.{Walk, going, over, faulty, walkBy, walk}
-use Rattle.hoa.proofs.Takes.{Takes, takesStates, takesStart, takesProps, takesAcceptance, takesAccName, takesTool, takesName, takesProperties, takesLower, ItemLimit,
+use Rattle.hoa_grammar.specs.Doc as doc
+use Rattle.hoa_grammar.specs.Doc.{Conj, Hint, hintWord, hintInt, Extra, extraWord, extraInt, extraText, Item, itemText, itemsText, hintsText, extrasText, wordsText, stringsText, perhapsText}
+use Rattle.hoa_grammar.specs.Subset.{Each, eachNone, eachMore, Differ, differNone, differMore, StandardAs}
+use Rattle.hoa_grammar.specs.Walk.{Walk, going, over, faulty, walkBy, walk}
+use Rattle.hoa_grammar.proofs.Takes.{Takes, takesStates, takesStart, takesProps, takesAcceptance, takesAccName, takesTool, takesName, takesProperties, takesLower, ItemLimit,
   TakesAll, takesNone, takesMore}
-use Rattle.hoa.proofs.Takes as takes
-use Rattle.hoa.proofs.Names.{ne-same}
-use Rattle.hoa.proofs.Heads.{AllLimits, New}
+use Rattle.hoa_grammar.proofs.Takes as takes
+use Rattle.hoa_grammar.proofs.Names.{ne-same}
+use Rattle.hoa_grammar.proofs.Heads.{AllLimits, New}
 
 abbrev HeadWalk : Type 0
 HeadWalk = Walk HeadState Head

@@ -14,3 +14,5 @@ pub mod RowTakes
 pub mod RowSound
 -- RowWalks: edges and rows are walked as they fit
 pub mod RowWalks
+-- Ahead: items fit one behind the other exactly if all of them do
+pub mod Ahead

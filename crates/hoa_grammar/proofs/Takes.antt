@@ -13,8 +13,8 @@ use Rattle.job_text.specs.Job.{mostJobStates}
 use Rattle.hoa_step.specs.Given.{isGiven, notBelow, notAbove}
 use Rattle.hoa_head.specs.declared.Head.{Head}
 use Rattle.hoa_head.specs.Head.{mostProps, mostMarks, withStates, withStart, withProps, withMarks, withAccName, withTool, withName}
-use Rattle.hoa.specs.Doc.{Conj, Hint, Extra, Item, states, start, props, alias, acceptance, accName, tool, name, properties, capital, lower}
-use Rattle.hoa.specs.Subset.{Differ, Formula, StandardAs}
+use Rattle.hoa_grammar.specs.Doc.{Conj, Hint, Extra, Item, states, start, props, alias, acceptance, accName, tool, name, properties, capital, lower}
+use Rattle.hoa_grammar.specs.Subset.{Differ, Formula, StandardAs}
 
 -- the formula with c marks
 abbrev pub formula : ℕ → Cond → Formula

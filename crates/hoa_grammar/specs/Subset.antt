@@ -15,7 +15,7 @@ use Rattle.hoa_formula.specs.Standard.{standard, Std, stdText, IsStd, stdMeanin
 use Rattle.hoa_head.specs.Head.{mostProps, mostMarks}
 use Rattle.hoa_rows.specs.Sig.{withMark}
 use Rattle.hoa_rows.specs.Sorted.{sorted}
-use Rattle.hoa.specs.Doc.{Conj, Item, states, start, props, alias, acceptance, accName, tool, name, properties, capital, lower, EdgeTree, Row, Doc}
+use Rattle.hoa_grammar.specs.Doc.{Conj, Item, states, start, props, alias, acceptance, accName, tool, name, properties, capital, lower, EdgeTree, Row, Doc}
 
 -- ---- lists
 
@@ -265,5 +265,5 @@ pub record Limited (d : Doc) (j : Job) (says : Says d j) : Type 0 where
   pub few-props : propsOf (given ofProps (d .items)) ≤ mostProps
   pub few-marks : says .formula .marks ≤ mostMarks
   pub few-pairs : stdPairs (says .means .std) ≤ mostPairs
-  pub few-edges : length (j .edges) ≤ mostJobEdges
+  pub few-edges : length (says .all) ≤ mostJobEdges
   pub flat : Each (λ r. Each (λ e. LabelLimit (e .label)) (r .edges)) (d .rows)

@@ -12,8 +12,8 @@ use Rattle.hoa_label.proofs.Sets.{labelSet}
 use Rattle.hoa_step.specs.Given.{notBelow}
 use Rattle.hoa_rows.specs.declared.Limits.{Limits}
 use Rattle.hoa_rows.specs.Rows.{Rows, withRow, withSig, withEdge, came, fullRows}
-use Rattle.hoa.specs.Doc.{Conj, EdgeTree, Row}
-use Rattle.hoa.specs.Subset.{SigFits, sigMarks}
+use Rattle.hoa_grammar.specs.Doc.{Conj, EdgeTree, Row}
+use Rattle.hoa_grammar.specs.Subset.{SigFits, sigMarks}
 
 -- the edge with a label, one target and perhaps a sig
 abbrev pub edgeTree : Label → ℕ → Option (List ℕ) → EdgeTree

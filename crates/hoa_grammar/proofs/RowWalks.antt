@@ -29,11 +29,11 @@ use Rattle.hoa_rows.specs.declared.Limits.{Limits}
 use Rattle.hoa_rows.specs.Sig.{sigStep, withMark}
 use Rattle.hoa_rows.specs.Rows.{Rows, rows, withRow, withSig, withEdge, came, RowState, entries, rowNumber, rowName, rowSig, rowMarks, inLabel, target, targetMore, edgeMarks,
   closing, Kept, RowStep, entryOf, fullRows, behindRow, shutLabel, onLabel, rowStep}
-use Rattle.hoa.specs.Doc.{Conj, EdgeTree, Row, conjText, edgeText, edgesText, rowText, rowsText, intsText, perhapsText, perhapsLabel, perhapsSig}
-use Rattle.hoa.specs.Subset.{Each, eachNone, eachMore, SigFits, sigMarks, marksFrom}
-use Rattle.hoa.specs.Walk.{Walk, going, over, faulty, walkBy, walk}
-use Rattle.hoa.proofs.Onward.{Onward, same, limit, by-limit, onward-then, onward-more, onward-by, onward-from}
-use Rattle.hoa.proofs.RowTakes.{edgeTree, TakesEdge, takesEdge, EdgeLimit, TakesEdges, takesNoEdge, takesEdgeMore, EdgesLimit, TakesRow, RowLimit, TakesRows, takesNoRow, takesRowMore,
+use Rattle.hoa_grammar.specs.Doc.{Conj, EdgeTree, Row, conjText, edgeText, edgesText, rowText, rowsText, intsText, perhapsText, perhapsLabel, perhapsSig}
+use Rattle.hoa_grammar.specs.Subset.{Each, eachNone, eachMore, SigFits, sigMarks, marksFrom}
+use Rattle.hoa_grammar.specs.Walk.{Walk, going, over, faulty, walkBy, walk}
+use Rattle.hoa_grammar.proofs.Onward.{Onward, same, limit, by-limit, onward-then, onward-more, onward-by, onward-from}
+use Rattle.hoa_grammar.proofs.RowTakes.{edgeTree, TakesEdge, takesEdge, EdgeLimit, TakesEdges, takesNoEdge, takesEdgeMore, EdgesLimit, TakesRow, RowLimit, TakesRows, takesNoRow, takesRowMore,
   RowsLimit}
 
 abbrev RowWalk : Type 0

@@ -7,7 +7,8 @@ ghost use Prim.Native.Nat.{ℕ, _≤_};
 ghost use Rattle.hoa_tokens.specs.Stream.{tokenOf};
 ghost use Rattle.hoa_label.specs.Labels.{propSet, turned, wantedWord, wantedSign, wanted, behindSign, behind};
 ghost use Rattle.hoa_label.specs.Label.{mostLevels};
-ghost use Rattle.hoa_label.specs.Reading.{flippedRead, FactorAt, LevelAt, LabelAt};
+ghost use Rattle.hoa_label.specs.Reading.{LabelAt};
+ghost use Rattle.hoa_label.specs.inner.Levels.{flippedRead, FactorAt, LevelAt};
 
 // What a token is where a factor is wanted: a factor with its valuations, `!`, `(`, or a fault.
 pub enum Wanted {

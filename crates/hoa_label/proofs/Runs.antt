@@ -27,28 +27,58 @@ use Rattle.hoa_label.specs.declared.Behind.the-variants as behind-is
 use Rattle.hoa_label.specs.declared.LabelRead.{LabelRead}
 use Rattle.hoa_label.specs.declared.LabelRead.the-variants.{Shut, Refused}
 use Rattle.hoa_label.specs.Label.{mostLevels}
-use Rattle.hoa_label.specs.Labels.{turned, full, propSet, wantedWord, wantedSign, Frame, frame, fresh, LabelState, wants, has, wanted, behind, onWanted, onBehind, isOutermost, shutLevel, stepWithin,
-  LabelStep, go, shut, wrong, labelStep, LabelEnd, shutAt, wrongAt, endBy, labelRun, nextBy, labelNext}
+use Rattle.hoa_label.specs.Labels.{
+  turned,
+  full,
+  propSet,
+  wantedWord,
+  wantedSign,
+  Frame,
+  frame,
+  fresh,
+  LabelState,
+  wants,
+  has,
+  wanted,
+  behind,
+  onWanted,
+  onBehind,
+  isOutermost,
+  shutLevel,
+  stepWithin,
+  LabelStep,
+  go,
+  shut,
+  wrong,
+  labelStep,
+  LabelEnd,
+  shutAt,
+  wrongAt,
+  endBy,
+  labelRun,
+  nextBy,
+  labelNext,
+}
 use Rattle.hoa_label.specs.Reading.{Onward, LabelAt}
 use Rattle.hoa_label.specs.inner.Levels.{Stop, stopFrom, stopBy, factorStop, FactorAt, flippedRead, levelStop, LevelAt}
 
 -- ---- one token
 
 paired : (d : LabelStep) (p q : ℕ) (ps : List Placed) (run : LabelState → LabelEnd) (next : LabelState → ℕ)
-  → (endBy d p ps run, nextBy d q next) ≡ stopBy d p q ps (λ u. (run u, next u))
+    → (endBy d p ps run, nextBy d q next) ≡ stopBy d p q ps (λ u. (run u, next u))
 paired (go s) p q ps run next = refl
 paired (shut x) p q ps run next = refl
 paired (wrong n) p q ps run next = refl
 
 finish-wrong : (a : ℕ) (s : LabelState) (p q : ℕ) (ps qs : List Placed)
-  → stopBy (labelStep a s finish) p q ps (λ u. (labelRun a u ps, labelNext a u ps)) ≡ stopBy (labelStep a s finish) p q qs (λ u. (labelRun a u qs, labelNext a u qs))
+    → stopBy (labelStep a s finish) p q ps (λ u. (labelRun a u ps, labelNext a u ps)) ≡ stopBy (labelStep a s finish) p q qs (λ u. (labelRun a u qs, labelNext a u qs))
 unfolding labelStep stepWithin wanted behind
 finish-wrong a (wants f fs) p q ps qs = refl
 finish-wrong a (has o c fs) p q ps qs = refl
 
 ended : (a : ℕ) (s : LabelState) (t : Token) (p q : ℕ) (ps : List Placed)
-  → stopBy (labelStep a s t) p q (unlessFinished t ps) (λ u. (labelRun a u (unlessFinished t ps), labelNext a u (unlessFinished t ps)))
-  ≡ stopBy (labelStep a s t) p q ps (λ u. (labelRun a u ps, labelNext a u ps))
+    → stopBy (labelStep a s t) p q (unlessFinished t ps) (λ u. (labelRun a u (unlessFinished t ps), labelNext a u (unlessFinished t ps)))
+    ≡ stopBy (labelStep a s t) p q ps (λ u. (labelRun a u ps, labelNext a u ps))
 ended a s finish p q ps = finish-wrong a s p q [] ps
 ended a s (int n) p q ps = refl
 ended a s (word w) p q ps = refl
@@ -67,7 +97,7 @@ module _ (text : List ℕ) (a : ℕ) where
   onFrom at s = stopFrom text a at s
 
   run-step : {at : ℕ} {f : Found} (s : LabelState) → TokenAt text at f
-    → onFrom at s ≡ stopBy (labelStep a s (tokenOf text (f .first) (f .next) (f .kind))) (f .first) (f .next) (tokensAt text (f .next)) (onFrom (f .next))
+      → onFrom at s ≡ stopBy (labelStep a s (tokenOf text (f .first) (f .next) (f .kind))) (f .first) (f .next) (tokensAt text (f .next)) (onFrom (f .next))
   unfolding labelRun labelNext
   run-step {at} {f} s h =
       rw (tokens-next text at f h)
@@ -79,7 +109,7 @@ module _ (text : List ℕ) (a : ℕ) where
   Wants depth k w = (bs : List ℕ) (p q : ℕ) → w ≡ wanted a (ltb depth mostLevels) (tokenOf bs p q k)
 
   wants-run : {at depth : ℕ} {f : Found} {w v : Wanted} (r : Frame) (fs : List Frame) → length fs ≡ depth → TokenAt text at f → Wants depth (f .kind) w → w ≡ v
-    → onFrom at (wants r fs) ≡ stopBy (onWanted r fs v) (f .first) (f .next) (tokensAt text (f .next)) (onFrom (f .next))
+      → onFrom at (wants r fs) ≡ stopBy (onWanted r fs v) (f .first) (f .next) (tokensAt text (f .next)) (onFrom (f .next))
   unfolding labelStep stepWithin
   wants-run {f = f} r fs l h e q =
       run-step (wants r fs) h ∙ ap (λ (v : Wanted). stopBy (onWanted r fs v) (f .first) (f .next) (tokensAt text (f .next)) (onFrom (f .next)))
@@ -94,7 +124,7 @@ module _ (text : List ℕ) (a : ℕ) where
   outermost (f ∷ fs) = sym (eqb·suc-zero (length fs))
 
   behind-run : {at depth : ℕ} {f : Found} {b v : Behind} (o c : ℕ) (fs : List Frame) → length fs ≡ depth → TokenAt text at f → Stands depth (f .kind) b → b ≡ v
-    → onFrom at (has o c fs) ≡ stopBy (onBehind o c fs v) (f .first) (f .next) (tokensAt text (f .next)) (onFrom (f .next))
+      → onFrom at (has o c fs) ≡ stopBy (onBehind o c fs v) (f .first) (f .next) (tokensAt text (f .next)) (onFrom (f .next))
   unfolding labelStep stepWithin
   behind-run {f = f} o c fs l h e q =
       run-step (has o c fs) h ∙ ap (λ (v : Behind). stopBy (onBehind o c fs v) (f .first) (f .next) (tokensAt text (f .next)) (onFrom (f .next)))
@@ -129,7 +159,8 @@ module _ (text : List ℕ) (a : ℕ) where
         let m = fine-moves depth h e (ap isFine q) in
         record {
           is = λ o c fs l. i .is o c fs l ∙ wants-run (frame o c flipped) fs l h e q;
-          onward = omega (arith, i .onward, m .behind-at, m .takes) }
+          onward = omega (arith, i .onward, m .behind-at, m .takes);
+        }
 
     pub not-less : w ≡ wanted-is.Not → (from < f .next) × (from < length text)
     unfolding isFine
@@ -142,7 +173,8 @@ module _ (text : List ℕ) (a : ℕ) where
         rw d
         (record {
           is = λ o c fs l. i .is o c fs l ∙ wants-run (frame o c flipped) fs l h e q;
-          onward = (omega (arith, i .onward, m .behind-at, m .takes), m .within) })
+          onward = (omega (arith, i .onward, m .behind-at, m .takes), m .within);
+        })
 
     pub wrong-read : {n : ℕ} → w ≡ wanted-is.Wrong n → FactorAt text at a depth (Refused n (f .first))
     wrong-read q = record { is = λ o c fs l. i .is o c fs l ∙ wants-run (frame o c flipped) fs l h e q; onward = tt }
@@ -153,7 +185,8 @@ module _ (text : List ℕ) (a : ℕ) where
         let m = fine-moves depth h e (ap isFine q) in
         record {
           is = λ o c fs l. i .is o c fs l ∙ wants-run (frame o c flipped) fs l h e q ∙ v .is (frame o c flipped ∷ fs) (omega arith);
-          onward = (omega (arith, i .onward, m .behind-at, m .takes, v .onward .0), v .onward .1) }
+          onward = (omega (arith, i .onward, m .behind-at, m .takes, v .onward .0), v .onward .1);
+        }
     deeper (Refused n p) q v =
         record { is = λ o c fs l. i .is o c fs l ∙ wants-run (frame o c flipped) fs l h e q ∙ v .is (frame o c flipped ∷ fs) (omega arith); onward = tt }
 
@@ -164,7 +197,7 @@ module _ (text : List ℕ) (a : ℕ) where
 
   -- what shuts a level is never faulty
   no-place : (x : ℕ) (fs : List Frame) (p q : ℕ) (ps : List Placed) (more : LabelState → Stop)
-    → stopBy (shutLevel x fs) p q ps more ≡ stopBy (shutLevel x fs) 0 q ps more
+      → stopBy (shutLevel x fs) p q ps more ≡ stopBy (shutLevel x fs) 0 q ps more
   no-place x [] p q ps more = refl
   no-place x (f ∷ fs) p q ps more = refl
 
@@ -179,7 +212,7 @@ module _ (text : List ℕ) (a : ℕ) where
 
     module _ {x from' : ℕ} {f : Found} {b : Behind} (q : r ≡ Shut x from') (h : TokenAt text from' f) (e : Stands depth (f .kind) b) where
       onto : {u : Behind} (fs : List Frame) → length fs ≡ depth → b ≡ u
-        → onFrom at (wants fresh fs) ≡ stopBy (onBehind ors (bitAnd ands x) fs u) (f .first) (f .next) (tokensAt text (f .next)) (onFrom (f .next))
+          → onFrom at (wants fresh fs) ≡ stopBy (onBehind ors (bitAnd ands x) fs u) (f .first) (f .next) (tokensAt text (f .next)) (onFrom (f .next))
       onto fs l k = i .is fs l ∙ v .is ors ands fs l ∙ ap (factorStop text a ors ands fs) q ∙ behind-run ors (bitAnd ands x) fs l h e k
 
       further : (from < from') × (from' ≤ length text)

@@ -1,6 +1,9 @@
 // Labels of the Hanoi format (docs/RULES.md, "The Hanoi format"): a label behind its `[`, read as a 64-bit set of valuations. Relies on `hoa_tokens`.
 // What a label is, which tokens are admitted and what the set means is in specs/.
-use hoa_tokens::{token_at, Kind, Sign, Word};
+use hoa_tokens::Kind;
+use hoa_tokens::Sign;
+use hoa_tokens::Word;
+use hoa_tokens::token_at;
 ghost use mathlib.Core.Path.{_≡_};
 ghost use mathlib.Core.List.{List};
 ghost use Prim.Native.Nat.{ℕ, _≤_};

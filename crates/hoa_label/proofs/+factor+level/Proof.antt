@@ -11,8 +11,22 @@ use borrow.Fn.Kinds.{In}
 use borrow.Fn.PlainCycle.{Measures, is, falls, and}
 use Rattle.hoa_label.specs.Label.{mostLevels}
 use Rattle.hoa_label.specs.Labels.{full}
-use Rattle.hoa_label.proofs.Runs.{Flips, not-again, not-less, set-read, level-read, wrong-read, room-left, Joins, factor-wrong, level-less, and-again, or-again,
-  shut-read, behind-wrong}
+use Rattle.hoa_label.proofs.Runs.{
+  Flips,
+  not-again,
+  not-less,
+  set-read,
+  level-read,
+  wrong-read,
+  room-left,
+  Joins,
+  factor-wrong,
+  level-less,
+  and-again,
+  or-again,
+  shut-read,
+  behind-wrong,
+}
 use Rattle.hoa_label.proofs.behind_token.Reads as behind-token-reads
 use Rattle.hoa_label.proofs.flip.Reads as flip-reads
 use Rattle.hoa_tokens.proofs.token_at.Reads as token-at-reads
@@ -119,8 +133,8 @@ factor-level-requires : (t : ℕ) → factor-lts.Need-level-requires (factor-cal
 factor-level-requires t c κs =
     let at-entry = c .before .before .before .before .before .before in
     let l =
-        room-left [] (at-entry .args .a) (at-entry .args .depth) (c .before .before .before .token-at .result .kind) (c .before .before .wanted-token .ensures)
-        (c .enum-told2 .given .1) in
+    room-left [] (at-entry .args .a) (at-entry .args .depth) (c .before .before .before .token-at .result .kind) (c .before .before .wanted-token .ensures)
+    (c .enum-told2 .given .1) in
     omega (arith, l)
 
 factor-flip-requires : (t : ℕ) → factor-lts.Need-flip-requires (factor-calls t) (factor-at t) factor.Post factor-Inv-loop factor-μ-loop

@@ -8,8 +8,25 @@ use lib.ListN.{length}
 use Rattle.hoa_tokens.specs.Stream.{Placed, tokensAt}
 use Rattle.hoa_label.specs.declared.LabelRead.{LabelRead}
 use Rattle.hoa_label.specs.declared.LabelRead.the-variants.{Shut, Refused}
-use Rattle.hoa_label.specs.Labels.{turned, Frame, frame, fresh, LabelState, wants, has, LabelStep, go, shut, wrong, shutLevel, LabelEnd, shutAt, wrongAt, labelRun,
-  labelNext}
+use Rattle.hoa_label.specs.Labels.{
+  turned,
+  Frame,
+  frame,
+  fresh,
+  LabelState,
+  wants,
+  has,
+  LabelStep,
+  go,
+  shut,
+  wrong,
+  shutLevel,
+  LabelEnd,
+  shutAt,
+  wrongAt,
+  labelRun,
+  labelNext,
+}
 use Rattle.hoa_label.specs.Reading.{Onward}
 
 -- how a run ends, and the byte behind the token that shuts the label

@@ -51,7 +51,8 @@ pub record Examples : Type 0 where
   pub deep-enough : gives 0 (replicate 256 40) (Refused 40 256)
 
 pub examples : Examples
-unfolding tokensAt some first gapOf isBlank front isDigit isCapital isLetter isName run number isInt spelt named wordOf headerOf furtherHeader quoted at fixed signOf bytes same full propSet wanted behind stepWithin labelStep walkWithin labelRun labelText labelHolds valuation
+unfolding tokensAt some first gapOf isBlank front isDigit isCapital isLetter isName run number isInt spelt named wordOf headerOf furtherHeader quoted at fixed signOf
+    bytes same full propSet wanted behind stepWithin labelStep walkWithin labelRun labelText labelHolds valuation
 examples =
     record {
       mixed-read = refl;

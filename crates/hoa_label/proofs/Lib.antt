@@ -20,3 +20,5 @@ pub mod Promises
 pub mod Unique
 -- Examples: labels from bytes to sets
 pub mod Examples
+-- Carry: for a machine that follows these steps inside a label
+pub mod Carry

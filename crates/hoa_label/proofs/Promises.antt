@@ -42,25 +42,25 @@ use Rattle.hoa_label.proofs.Meaning.{meaning}
 
 -- ---- the ends of a run differ
 
-wrong-shut : {C : Type 0} {n p x : ℕ} {ps : List Placed} → wrongAt n p ≡ shutAt x ps → C
+pub wrong-shut : {C : Type 0} {n p x : ℕ} {ps : List Placed} → wrongAt n p ≡ shutAt x ps → C
 wrong-shut e = let z : _≡_ {A = ℕ} 0 1 = cc in absurd (omega arith)
 
-cut-shut : {C : Type 0} {x : ℕ} {ps : List Placed} → cut ≡ shutAt x ps → C
+pub cut-shut : {C : Type 0} {x : ℕ} {ps : List Placed} → cut ≡ shutAt x ps → C
 cut-shut e = let z : _≡_ {A = ℕ} 0 1 = cc in absurd (omega arith)
 
-cut-wrong : {C : Type 0} {n p : ℕ} → cut ≡ wrongAt n p → C
+pub cut-wrong : {C : Type 0} {n p : ℕ} → cut ≡ wrongAt n p → C
 cut-wrong e = let z : _≡_ {A = ℕ} 0 1 = cc in absurd (omega arith)
 
-shut-set : {x y : ℕ} {ps qs : List Placed} → shutAt x ps ≡ shutAt y qs → x ≡ y
+pub shut-set : {x y : ℕ} {ps qs : List Placed} → shutAt x ps ≡ shutAt y qs → x ≡ y
 shut-set e = cc
 
-shut-rest : {x y : ℕ} {ps qs : List Placed} → shutAt x ps ≡ shutAt y qs → ps ≡ qs
+pub shut-rest : {x y : ℕ} {ps qs : List Placed} → shutAt x ps ≡ shutAt y qs → ps ≡ qs
 shut-rest e = cc
 
-wrong-number : {n m p q : ℕ} → wrongAt n p ≡ wrongAt m q → n ≡ m
+pub wrong-number : {n m p q : ℕ} → wrongAt n p ≡ wrongAt m q → n ≡ m
 wrong-number e = cc
 
-wrong-place : {n m p q : ℕ} → wrongAt n p ≡ wrongAt m q → p ≡ q
+pub wrong-place : {n m p q : ℕ} → wrongAt n p ≡ wrongAt m q → p ≡ q
 wrong-place e = cc
 
 -- ---- a run is a walk

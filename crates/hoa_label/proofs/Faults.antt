@@ -1,8 +1,8 @@
 -- Which token is faulty, and with which number. Tokens that are admitted begin a label that fits (`admitted`: no fault is late); a token that is refused is faulty
--- with its number (`faulty-token`); no token is faulty with two numbers (`one-fault`). Assumes nothing.
+-- with its number (`faulty-token`); no token is faulty with two numbers (`one-fault`), so a token is refused exactly if it is faulty (`fault-exactly`). Assumes nothing.
 use mathlib.Core.Bool.{Bool, true, false, cond, false≢true}
 use mathlib.Core.List.{List, [], _∷_, _++_, append-assoc, append-nil}
-use mathlib.Core.Logic.{_⊎_, inl, inr, ⊎-elim}
+use mathlib.Core.Logic.{_⊎_, _↔_, inl, inr, ⊎-elim}
 use mathlib.Core.Path.{_≡_, refl, sym, ap, subst, _∙_}
 use Prim.Native.Nat.{ℕ, _≤_}
 use native.Mathlib.Omega.{arith}
@@ -301,3 +301,33 @@ one-fault levels a ts t n m (none-fits x y) (too-deep p q) = absurd (y p)
 one-fault levels a ts t n m (too-deep x y) (no-label p q) = absurd (q (any-of a (ts ++ t ∷ []) x))
 one-fault levels a ts t n m (too-deep x y) (none-fits p q) = absurd (q x)
 one-fault levels a ts t n m (too-deep x y) (too-deep p q) = refl
+
+-- ---- exactly so
+
+none-within : (levels a : ℕ) (ts : List Token) (t : Token) (n : ℕ) → Fault levels a ts t n → Begins (Within levels a) (ts ++ t ∷ []) → ⊥
+none-within levels a ts t n (no-label x y) b = y (record { label = b .label; kind = record {}; more = b .more; text = b .text })
+none-within levels a ts t n (none-fits x y) b = y (record { label = b .label; kind = record { fits = b .kind .fits }; more = b .more; text = b .text })
+none-within levels a ts t n (too-deep x y) b = y b
+
+forty : (levels a : ℕ) (ts : List Token) (t : Token) (n : ℕ) → n ≡ 40 → Fault levels a ts t n → (t ≡ abort → ⊥) × (Begins Any (ts ++ t ∷ []) → ⊥)
+forty levels a ts t n e (no-label x y) = (x, y)
+forty levels a ts t n e (none-fits x y) = absurd (omega arith)
+forty levels a ts t n e (too-deep x y) = absurd (omega arith)
+
+module _ (levels a : ℕ) (ts : List Token) (s : LabelState) (t : Token) (e : walkWithin levels a labelBegin ts ≡ going s) where
+  by-step : (d : LabelStep) (n : ℕ) → stepWithin levels a s t ≡ d → Fault levels a ts t n → d ≡ wrong n
+  by-step (go u) n q f =
+      absurd (none-within levels a ts t n f
+      (admitted levels a (ts ++ t ∷ []) u (walk-one levels a labelBegin s ts t e ∙ ap (λ (d : LabelStep). walkBy d [] going) q)))
+  by-step (shut x) n q f =
+      absurd (none-within levels a ts t n f
+      (shut-begins levels a x (ts ++ t ∷ []) (walk-one levels a labelBegin s ts t e ∙ ap (λ (d : LabelStep). walkBy d [] going) q)))
+  by-step (wrong m) n q f = ap wrong (one-fault levels a ts t m n (faulty-token levels a ts s t m e q) f)
+
+  -- behind tokens that are admitted a token is refused with a number exactly if it is faulty with it
+  pub fault-exactly : (n : ℕ) → (stepWithin levels a s t ≡ wrong n) ↔ Fault levels a ts t n
+  fault-exactly n = (faulty-token levels a ts s t n e, by-step (stepWithin levels a s t) n refl)
+
+  -- with 40 exactly if no label of the grammar begins with the tokens up to it, and it is not `--ABORT--`
+  pub forty-exactly : (stepWithin levels a s t ≡ wrong 40) ↔ ((t ≡ abort → ⊥) × (Begins Any (ts ++ t ∷ []) → ⊥))
+  forty-exactly = (λ q. forty levels a ts t 40 refl (fault-exactly 40 .0 q), λ f. fault-exactly 40 .1 (no-label (f .0) (f .1)))

@@ -228,7 +228,10 @@ module _ (text : List ℕ) (a : ℕ) where
       or-again k d g = rw (d, g) (record { is = λ fs l. onto fs l k; onward = omega (arith, i .onward, level-less) })
 
       pub shut-read : b ≡ behind-is.Shut → LevelAt text at a depth (Shut (bitOr ors (bitAnd ands x)) (f .next))
-      shut-read k = record { is = λ fs l. onto fs l k ∙ no-place (bitOr ors (bitAnd ands x)) fs (f .first) (f .next) (tokensAt text (f .next)) (onFrom (f .next)); onward = (omega (arith, i .onward, level-less), h .within (further .1)) }
+      shut-read k =
+          record {
+            is = λ fs l. onto fs l k ∙ no-place (bitOr ors (bitAnd ands x)) fs (f .first) (f .next) (tokensAt text (f .next)) (onFrom (f .next));
+            onward = (omega (arith, i .onward, level-less), h .within (further .1)) }
 
       pub behind-wrong : {n : ℕ} → b ≡ behind-is.Wrong n → LevelAt text at a depth (Refused n (f .first))
       behind-wrong k = record { is = λ fs l. onto fs l k; onward = tt }

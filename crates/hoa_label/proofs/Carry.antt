@@ -5,7 +5,6 @@ use mathlib.Core.Path.{_≡_, sym, ap, _∙_}
 use Prim.Native.Nat.{ℕ}
 use Rattle.hoa_tokens.specs.Token.{Token}
 use Rattle.hoa_tokens.specs.Stream.{Placed}
-use Rattle.hoa_label.specs.Label.{mostLevels}
 use Rattle.hoa_label.specs.Labels.{
   LabelState,
   LabelStep,
@@ -20,7 +19,6 @@ use Rattle.hoa_label.specs.Labels.{
   faulty,
   walkBy,
   walkWithin,
-  LabelEnd,
   shutAt,
   wrongAt,
   endBy,

@@ -1,10 +1,10 @@
 -- Every label that fits is read to its end, with its set (`complete`), so no token of one is refused (`refused`); no token of any label is refused with 40
 -- (`no-syntax-fault`), and no token of a label with a propositions with 41, however deep its brackets nest (`no-early-fault`). Assumes nothing.
 use mathlib.Core.Bool.{Bool, true, false, not, cond}
-use mathlib.Core.List.{List, [], _∷_, _++_}
+use mathlib.Core.List.{List, [], _∷_}
 use mathlib.Core.Path.{_≡_, refl, sym, ap, _∙_}
 use mathlib.Core.Logic.{_≢_}
-use Prim.Native.Nat.{ℕ, suc, _+_, _≤_, _<_}
+use Prim.Native.Nat.{ℕ, _+_, _≤_, _<_}
 use native.Mathlib.Omega.{arith}
 use borrow.Author.Tests.{lt-ltb, ltb-false}
 use lib.Bits.{bitAnd, bitOr}
@@ -49,16 +49,13 @@ use Rattle.hoa_label.specs.Labels.{
   Frame,
   frame,
   fresh,
-  LabelState,
   wants,
   has,
   labelBegin,
-  LabelStep,
   stepWithin,
   wanted,
   behind,
   LabelWalk,
-  going,
   closed,
   faulty,
   walkBy,

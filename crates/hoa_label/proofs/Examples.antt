@@ -1,17 +1,17 @@
 -- Examples of labels, from the bytes of a text to the set, computed from the definitions; a label and what it says by the grammar. Assumes nothing.
-use mathlib.Core.Bool.{Bool, true, false}
-use mathlib.Core.List.{List, [], _∷_}
+use mathlib.Core.Bool.{true, false}
+use mathlib.Core.List.{List, _∷_}
 use mathlib.Core.Path.{_≡_, refl}
 use Prim.Native.Nat.{ℕ}
 use lib.ListN.{replicate}
 use Rattle.hoa_tokens.specs.declared.Sign.the-variants as sign-is
 use Rattle.hoa_tokens.specs.Bytes.{bytes, same, isDigit, isCapital, isLetter, isName, isBlank, run}
-use Rattle.hoa_tokens.specs.Token.{Token, sign, wordOf, furtherHeader, headerOf, spelt, isInt, number, named, quoted, at, fixed, signOf, front}
+use Rattle.hoa_tokens.specs.Token.{sign, wordOf, furtherHeader, headerOf, spelt, isInt, number, named, quoted, at, fixed, signOf, front}
 use Rattle.hoa_tokens.specs.Stream.{gapOf, first, some, tokensAt}
 use Rattle.hoa_label.specs.declared.LabelRead.{LabelRead}
 use Rattle.hoa_label.specs.declared.LabelRead.the-variants.{Shut, Refused}
-use Rattle.hoa_label.specs.Label.{Label, conj, or, factor, and, truth, prop, negated, nested, labelText, labelDepth, labelHolds, valuation}
-use Rattle.hoa_label.specs.Labels.{full, propSet, labelBegin, wanted, behind, stepWithin, labelStep, faulty, walkWithin, labelRun}
+use Rattle.hoa_label.specs.Label.{Label, conj, or, factor, and, prop, negated, labelText, labelHolds, valuation}
+use Rattle.hoa_label.specs.Labels.{full, propSet, labelBegin, wanted, behind, stepWithin, labelStep, walkWithin, labelRun}
 use Rattle.hoa_label.specs.Reading.{labelEnd, tokensOf}
 
 -- the text, a label behind its `[`, is read so with a propositions

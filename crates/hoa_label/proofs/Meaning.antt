@@ -1,19 +1,18 @@
 -- What the set of a label means: it has exactly the valuations in which the label holds (`meaning`), and it is empty exactly if no valuation makes the label true
 -- (`satisfiable`). Each set is followed digit by digit. Assumes nothing.
 use mathlib.Core.Bool.{Bool, true, false, not, cond, _&&_, _||_, false≢true}
-use mathlib.Core.List.{List, [], _∷_}
 use mathlib.Core.Logic.{_↔_, _≢_}
 use mathlib.Core.Path.{_≡_, refl, sym, ap, subst, _∙_}
-use Prim.Native.Nat.{ℕ, zero, suc, _+_, _-_, _*_, _/_, _%_, _^_, _≤_, _<_, min, max}
+use Prim.Native.Nat.{ℕ, zero, suc, _+_, _*_, _/_, _%_, _^_, _≤_, _<_, min, max}
 use native.Mathlib.Nat.{div-eq-of-lt, pow-suc}
 use native.Mathlib.Omega.{arith}
-use borrow.Author.Tests.{eqb-true, eq-eqb, lt-ltb, le-ltb}
-use lib.Bits.{bitAnd, bitOr, bitXor, and-lt, or-lt, xor-lt}
+use borrow.Author.Tests.{lt-ltb, le-ltb}
+use lib.Bits.{bitAnd, bitOr, and-lt, or-lt, xor-lt}
 use lib.Dec.{eqb, ltb, T, eqb→eq, ltb→lt}
 use lib.Pow.{pow-pos}
 use Rattle.marks.specs.Mark.{has}
 use Rattle.marks.proofs.Cases.{below}
-use Rattle.marks.proofs.Laws.{or-digit, and-digit, xor-digit, half-digit, low-digit, has-ones, has-none, some-mark, has-fits}
+use Rattle.marks.proofs.Laws.{or-digit, and-digit, xor-digit, half-digit, has-ones, has-none, some-mark, has-fits}
 use Rattle.hoa_label.specs.Label.{
   Label,
   conj,

@@ -2,14 +2,14 @@
 -- (`label-is-read`). A run over placed tokens is a walk over the tokens, up to where it ends. Assumes nothing.
 use mathlib.Core.List.{List, [], _∷_, _++_}
 use mathlib.Core.Path.{_≡_, refl, sym, ap, subst, _∙_}
-use Prim.Native.Nat.{ℕ, _≤_}
+use Prim.Native.Nat.{ℕ}
 use native.Mathlib.Omega.{arith}
 use Rattle.hoa_tokens.specs.declared.Sign.the-variants as sign-is
 use Rattle.hoa_tokens.specs.Token.{Token, sign}
 use Rattle.hoa_tokens.specs.Stream.{Placed, tokensAt}
 use Rattle.hoa_label.specs.declared.LabelRead.{LabelRead}
 use Rattle.hoa_label.specs.declared.LabelRead.the-variants.{Shut, Refused}
-use Rattle.hoa_label.specs.Label.{Label, labelText, mostLevels, Within, Begins, Fault, SetOf}
+use Rattle.hoa_label.specs.Label.{Label, labelText, mostLevels, Within, SetOf}
 use Rattle.hoa_label.specs.Labels.{
   LabelState,
   labelBegin,
@@ -22,10 +22,8 @@ use Rattle.hoa_label.specs.Labels.{
   LabelWalk,
   going,
   closed,
-  faulty,
   walkBy,
   walkWithin,
-  LabelEnd,
   shutAt,
   wrongAt,
   cut,

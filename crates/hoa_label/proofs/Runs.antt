@@ -3,9 +3,8 @@
 use mathlib.Core.Bool.{Bool, true, false, not, cond, false≢true}
 use mathlib.Core.List.{List, [], _∷_}
 use mathlib.Core.Path.{_≡_, refl, sym, ap, subst, _∙_}
-use Prim.Native.Nat.{ℕ, zero, suc, _+_, _≤_, _<_}
+use Prim.Native.Nat.{ℕ, _+_, _≤_, _<_}
 use native.Mathlib.Omega.{arith}
-use native.Mathlib.Numerals.{add-one}
 use borrow.Author.Tests.{ltb-true}
 use lib.Bits.{bitAnd, bitOr}
 use lib.Dec.{eqb, ltb, eqb·suc-zero}
@@ -52,15 +51,13 @@ use Rattle.hoa_label.specs.Labels.{
   wrong,
   labelStep,
   LabelEnd,
-  shutAt,
-  wrongAt,
   endBy,
   labelRun,
   nextBy,
   labelNext,
 }
 use Rattle.hoa_label.specs.Reading.{Onward, LabelAt}
-use Rattle.hoa_label.specs.inner.Levels.{Stop, stopFrom, stopBy, factorStop, FactorAt, flippedRead, levelStop, LevelAt}
+use Rattle.hoa_label.specs.inner.Levels.{Stop, stopFrom, stopBy, factorStop, FactorAt, flippedRead, LevelAt}
 
 -- ---- one token
 
@@ -231,7 +228,8 @@ module _ (text : List ℕ) (a : ℕ) where
       shut-read k =
           record {
             is = λ fs l. onto fs l k ∙ no-place (bitOr ors (bitAnd ands x)) fs (f .first) (f .next) (tokensAt text (f .next)) (onFrom (f .next));
-            onward = (omega (arith, i .onward, level-less), h .within (further .1)) }
+            onward = (omega (arith, i .onward, level-less), h .within (further .1));
+          }
 
       pub behind-wrong : {n : ℕ} → b ≡ behind-is.Wrong n → LevelAt text at a depth (Refused n (f .first))
       behind-wrong k = record { is = λ fs l. onto fs l k; onward = tt }

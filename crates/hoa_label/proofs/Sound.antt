@@ -13,14 +13,11 @@ use Rattle.hoa_tokens.specs.declared.Word.the-variants as word-is
 use Rattle.hoa_tokens.specs.declared.Sign.{Sign}
 use Rattle.hoa_tokens.specs.declared.Sign.the-variants as sign-is
 use Rattle.hoa_tokens.specs.Token.{Token, int, word, header, str, aname, sign, body, end, abort, finish, bad}
-use Rattle.hoa_label.specs.declared.Wanted.{Wanted}
 use Rattle.hoa_label.specs.declared.Wanted.the-variants as wanted-is
-use Rattle.hoa_label.specs.declared.Behind.the-variants as behind-is
 use Rattle.hoa_label.specs.Label.{
   Label,
   conj,
   or,
-  Lconj,
   factor,
   and,
   Lfactor,
@@ -30,13 +27,10 @@ use Rattle.hoa_label.specs.Label.{
   negated,
   nested,
   labelText,
-  conjText,
   factorText,
   labelFits,
-  conjFits,
   factorFits,
   labelDepth,
-  conjDepth,
   factorDepth,
   Within,
 }
@@ -60,10 +54,8 @@ use Rattle.hoa_label.specs.Labels.{
   behindSign,
   onBehind,
   isOutermost,
-  LabelWalk,
   going,
   closed,
-  faulty,
   walkBy,
   walkWithin,
 }

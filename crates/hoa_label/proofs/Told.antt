@@ -1,12 +1,11 @@
 -- What a token is where a factor is wanted, and behind one, by its kind; `other-..` for the kinds that a `match` leaves to `_`. Assumes nothing.
-use mathlib.Core.Bool.{Bool, true, false, cond}
+use mathlib.Core.Bool.{Bool}
 use mathlib.Core.List.{List, [], _∷_}
-use mathlib.Core.Path.{_≡_, refl, sym, ap, _∙_}
+use mathlib.Core.Path.{_≡_, refl}
 use Prim.Native.Nat.{ℕ, zero, suc, _<_, _≤_}
 use native.Mathlib.Omega.{arith}
 use borrow.Author.Tests.{lt-ltb, le-ltb}
 use denote.Enum.Declared
-use lib.Dec.{ltb}
 use lib.ListN.{length, getD}
 use types.Run.{OneOf, miss}
 use Rattle.hoa_tokens.proofs.Word as word-type

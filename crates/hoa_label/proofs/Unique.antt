@@ -4,11 +4,9 @@ use mathlib.Core.List.{List}
 use mathlib.Core.Path.{_≡_, sym, _∙_}
 use Prim.Native.Nat.{ℕ}
 use native.Mathlib.Omega.{arith}
-use Rattle.hoa_tokens.specs.Stream.{tokensAt}
 use Rattle.marks.proofs.Unique.{OneResult}
 use Rattle.hoa_label.specs.declared.LabelRead.{LabelRead}
 use Rattle.hoa_label.specs.declared.LabelRead.the-variants.{Shut, Refused}
-use Rattle.hoa_label.specs.Labels.{shutAt, wrongAt}
 use Rattle.hoa_label.specs.Reading.{labelEnd, nextOf, LabelAt}
 use Rattle.hoa_label.proofs.read_label.Reads as read-label
 

@@ -1,10 +1,10 @@
 -- Laws of a walk over tokens: a walk over tokens in two parts, and what a faulty or a shut label leaves. Assumes nothing.
 use mathlib.Core.List.{List, [], _∷_, _++_}
-use mathlib.Core.Path.{_≡_, refl, ap}
+use mathlib.Core.Path.{_≡_, ap}
 use Prim.Native.Nat.{ℕ}
 use native.Mathlib.Omega.{arith}
 use Rattle.hoa_tokens.specs.Token.{Token}
-use Rattle.hoa_label.specs.Labels.{LabelState, LabelStep, go, shut, wrong, stepWithin, LabelWalk, going, closed, faulty, walkBy, walkWithin}
+use Rattle.hoa_label.specs.Labels.{LabelState, LabelStep, go, shut, wrong, stepWithin, going, closed, faulty, walkBy, walkWithin}
 
 -- ---- the ends of a walk differ
 

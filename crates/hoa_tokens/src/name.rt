@@ -49,7 +49,7 @@ fn unknown(name: &[u8]) -> Header
     Header::Lower
 }
 
-// The header with this text, if it is one that may be left out.
+// The header with this text, if it is none of `header_of`'s own.
 fn further_header(name: &[u8]) -> Header
     ensures { λ r. ⌜ r ≡ furtherHeader (now (name .entry)) ⌝ }
 {

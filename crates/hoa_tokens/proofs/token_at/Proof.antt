@@ -24,7 +24,8 @@ returns : tie.Need-returns
 returns c =
     let at-gap = c .before .before .before .before in
     let a = at-gap .before .before .args in
-    clear-found (now (a .text)) (a .at) (c .before .before .i .given .0 .0) (c .front .result) (at-gap .skip .ensures ∙ ap aheadGap (c .before .before .i .given .1)) (c .front .ensures)
+    clear-found (now (a .text)) (a .at) (c .before .before .i .given .0 .0) (c .front .result)
+    (at-gap .skip .ensures ∙ ap aheadGap (c .before .before .i .given .1)) (c .front .ensures)
 
 returns-2 : tie.Need-returns-2
 returns-2 c =

@@ -53,7 +53,9 @@ returns-3 c =
     let at-2 = c .before .before .before in
     let at-1 = at-2 .before .before .before in
     let a = at-1 .before .before .before .before .args in
-    fixed-abort (now (a .text)) (a .at) (sym (at-1 .before .begins .ensures) ∙ at-1 .if1 .left) (sym (at-2 .before .begins2 .ensures) ∙ at-2 .if2 .left) (sym (c .before .begins3 .ensures) ∙ c .if3 .taken)
+    fixed-abort (now (a .text)) (a .at) (sym (at-1 .before .begins .ensures) ∙ at-1 .if1 .left)
+    (sym (at-2 .before .begins2 .ensures) ∙ at-2 .if2 .left)
+    (sym (c .before .begins3 .ensures) ∙ c .if3 .taken)
 
 add-t21 : tie.Need-add-t21
 add-t21 c = search needs
@@ -65,7 +67,9 @@ returns-4 c =
     let at-2 = at-3 .before .before .before in
     let at-1 = at-2 .before .before .before in
     let a = at-1 .before .before .before .before .args in
-    fixed-none (now (a .text)) (a .at) (sym (at-1 .before .begins .ensures) ∙ at-1 .if1 .left) (sym (at-2 .before .begins2 .ensures) ∙ at-2 .if2 .left) (sym (at-3 .before .begins3 .ensures) ∙ at-3 .if3 .left)
+    fixed-none (now (a .text)) (a .at) (sym (at-1 .before .begins .ensures) ∙ at-1 .if1 .left)
+    (sym (at-2 .before .begins2 .ensures) ∙ at-2 .if2 .left)
+    (sym (at-3 .before .begins3 .ensures) ∙ at-3 .if3 .left)
 
 pub fixed-spec : {M : Type 1} → statement M
 fixed-spec =

@@ -59,7 +59,8 @@ returns-4 c =
     let a = entry .args in
     let l = at-digit .before .before .if1 .left in
     rw (front-string (now (a .text)) (a .at) l (sym (at-digit .is-digit .ensures) ∙ at-letter .before .if2 .left)
-    (sym (at-letter .is-letter .ensures) ∙ c .before .before .if3 .left) (c .before .if4 .taken))
+    (sym (at-letter .is-letter .ensures) ∙ c .before .before .if3 .left)
+    (c .before .if4 .taken))
     (c .string .ensures)
 
 alias-requires : tie.Need-alias-requires
@@ -73,7 +74,8 @@ returns-5 c =
     let a = entry .args in
     let l = at-digit .before .before .if1 .left in
     rw (front-alias (now (a .text)) (a .at) l (sym (at-digit .is-digit .ensures) ∙ at-letter .before .if2 .left)
-    (sym (at-letter .is-letter .ensures) ∙ c .before .before .before .if3 .left) (c .before .before .if4 .left) (c .before .if5 .taken))
+    (sym (at-letter .is-letter .ensures) ∙ c .before .before .before .if3 .left)
+    (c .before .before .if4 .left) (c .before .if5 .taken))
     (c .alias .ensures)
 
 fixed-requires : tie.Need-fixed-requires
@@ -87,7 +89,8 @@ returns-6 c =
     let a = entry .args in
     let l = at-digit .before .before .if1 .left in
     rw (front-fixed (now (a .text)) (a .at) l (sym (at-digit .is-digit .ensures) ∙ at-letter .before .if2 .left)
-    (sym (at-letter .is-letter .ensures) ∙ c .before .before .before .before .if3 .left) (c .before .before .before .if4 .left) (c .before .before .if5 .left) (c .before .if6 .taken))
+    (sym (at-letter .is-letter .ensures) ∙ c .before .before .before .before .if3 .left)
+    (c .before .before .before .if4 .left) (c .before .before .if5 .left) (c .before .if6 .taken))
     (c .fixed .ensures)
 
 single-requires : tie.Need-single-requires
@@ -104,7 +107,8 @@ returns-7 c =
     let a = entry .args in
     let l = at-digit .before .before .if1 .left in
     rw (front-single (now (a .text)) (a .at) l (sym (at-digit .is-digit .ensures) ∙ at-letter .before .if2 .left)
-    (sym (at-letter .is-letter .ensures) ∙ c .before .before .before .before .if3 .left) (c .before .before .before .if4 .left) (c .before .before .if5 .left) (c .before .if6 .left))
+    (sym (at-letter .is-letter .ensures) ∙ c .before .before .before .before .if3 .left)
+    (c .before .before .before .if4 .left) (c .before .before .if5 .left) (c .before .if6 .left))
     (single-found (now (a .text)) (a .at) (c .single .result) (signOf (getD (now (a .text)) (a .at) 0)) (c .single .ensures))
 
 pub front-spec : {M : Type 1} → statement M

@@ -1,8 +1,6 @@
 -- `front::single` meets its contract: each mark is its own, and no other byte is one (`sign-none`). Assumes nothing.
 use Rattle.hoa_tokens.specs.Token.{signOf}
 use Rattle.hoa_tokens.proofs.Fronts.{sign-none}
-use borrow.Author.Needs.{needs}
-use native.Mathlib.Omega.{arith}
 use Rattle.hoa_tokens.proofs.front.single.Statement.{statement}
 use Rattle.hoa_tokens.proofs.front.single.Tie as tie
 
@@ -43,7 +41,7 @@ unfolding signOf
 returns-9 c = record { says = λ text a b. rw (c .match .keys9) }
 
 returns-10 : tie.Need-returns-10
-returns-10 c = record { says = λ text a b. rw (sign-none (c .before .args .byte) (c .match .rest .0 .0 .0 .0 .0 .0 .0 .0 .1) (c .match .rest .0 .0 .0 .0 .0 .0 .0 .1) (c .match .rest .0 .0 .0 .0 .0 .0 .1) (c .match .rest .0 .0 .0 .0 .0 .1) (c .match .rest .0 .0 .0 .0 .1) (c .match .rest .0 .0 .0 .1) (c .match .rest .0 .0 .1) (c .match .rest .0 .1) (c .match .rest .1)) }
+returns-10 c = record { says = λ text a b. rw (sign-none (c .before .args .byte) (c .match .rest)) }
 
 pub single-spec : {M : Type 1} → statement M
 single-spec =

@@ -42,7 +42,8 @@ returns-2 c =
     record {
       goes = omega arith;
       few = omega (arith, entry .pre);
-      same = comment-closes (now (a .text)) (a .at) (entry .pre .within) (a .depth) (entry .pre .some) (sym (c .before .before .before .stand .ensures) ∙ c .before .before .if1 .left) (sym (c .before .stand2 .ensures) ∙ c .if2 .taken);
+      same = comment-closes (now (a .text)) (a .at) (entry .pre .within) (a .depth) (entry .pre .some)
+          (sym (c .before .before .before .stand .ensures) ∙ c .before .before .if1 .left) (sym (c .before .stand2 .ensures) ∙ c .if2 .taken);
     }
 
 add-t10 : tie.Need-add-t10
@@ -55,7 +56,8 @@ returns-3 c =
     record {
       goes = omega arith;
       few = omega (arith, entry .pre);
-      same = comment-on (now (a .text)) (a .at) (entry .pre .within) (a .depth) (entry .pre .some) (sym (c .before .before .before .stand .ensures) ∙ c .before .before .if1 .left) (sym (c .before .stand2 .ensures) ∙ c .if2 .left);
+      same = comment-on (now (a .text)) (a .at) (entry .pre .within) (a .depth) (entry .pre .some)
+          (sym (c .before .before .before .stand .ensures) ∙ c .before .before .if1 .left) (sym (c .before .stand2 .ensures) ∙ c .if2 .left);
     }
 
 pub inside-spec : {M : Type 1} → statement M

@@ -39,7 +39,8 @@ unfolding headerOf bytes
 returns-3 c =
     let at-2 = c .before .before .before in
     let at-1 = at-2 .before .before .before in
-    rw (← at-1 .before .alike .ensures, at-1 .if1 .left, ← at-2 .before .alike2 .ensures, at-2 .if2 .left, ← c .before .alike3 .ensures, c .if3 .taken)
+    rw (← at-1 .before .alike .ensures, at-1 .if1 .left, ← at-2 .before .alike2 .ensures, at-2 .if2 .left)
+    (rw (← c .before .alike3 .ensures, c .if3 .taken))
 
 slice-aggregate-alike-4 : tie.Need-slice-aggregate-alike-4
 slice-aggregate-alike-4 c = search needs
@@ -53,7 +54,8 @@ returns-4 c =
     let at-3 = c .before .before .before in
     let at-2 = at-3 .before .before .before in
     let at-1 = at-2 .before .before .before in
-    rw (← at-1 .before .alike .ensures, at-1 .if1 .left, ← at-2 .before .alike2 .ensures, at-2 .if2 .left, ← at-3 .before .alike3 .ensures, at-3 .if3 .left, ← c .before .alike4 .ensures, c .if4 .taken)
+    rw (← at-1 .before .alike .ensures, at-1 .if1 .left, ← at-2 .before .alike2 .ensures, at-2 .if2 .left)
+    (rw (← at-3 .before .alike3 .ensures, at-3 .if3 .left, ← c .before .alike4 .ensures, c .if4 .taken))
 
 slice-aggregate-alike-5 : tie.Need-slice-aggregate-alike-5
 slice-aggregate-alike-5 c = search needs
@@ -68,7 +70,9 @@ returns-5 c =
     let at-3 = at-4 .before .before .before in
     let at-2 = at-3 .before .before .before in
     let at-1 = at-2 .before .before .before in
-    rw (← at-1 .before .alike .ensures, at-1 .if1 .left, ← at-2 .before .alike2 .ensures, at-2 .if2 .left, ← at-3 .before .alike3 .ensures, at-3 .if3 .left, ← at-4 .before .alike4 .ensures, at-4 .if4 .left, ← c .before .alike5 .ensures, c .if5 .taken)
+    rw (← at-1 .before .alike .ensures, at-1 .if1 .left, ← at-2 .before .alike2 .ensures, at-2 .if2 .left)
+    (rw (← at-3 .before .alike3 .ensures, at-3 .if3 .left, ← at-4 .before .alike4 .ensures, at-4 .if4 .left)
+    (rw (← c .before .alike5 .ensures, c .if5 .taken)))
 
 slice-aggregate-alike-6 : tie.Need-slice-aggregate-alike-6
 slice-aggregate-alike-6 c = search needs
@@ -84,7 +88,9 @@ returns-6 c =
     let at-3 = at-4 .before .before .before in
     let at-2 = at-3 .before .before .before in
     let at-1 = at-2 .before .before .before in
-    rw (← at-1 .before .alike .ensures, at-1 .if1 .left, ← at-2 .before .alike2 .ensures, at-2 .if2 .left, ← at-3 .before .alike3 .ensures, at-3 .if3 .left, ← at-4 .before .alike4 .ensures, at-4 .if4 .left, ← at-5 .before .alike5 .ensures, at-5 .if5 .left, ← c .before .alike6 .ensures, c .if6 .taken)
+    rw (← at-1 .before .alike .ensures, at-1 .if1 .left, ← at-2 .before .alike2 .ensures, at-2 .if2 .left)
+    (rw (← at-3 .before .alike3 .ensures, at-3 .if3 .left, ← at-4 .before .alike4 .ensures, at-4 .if4 .left)
+    (rw (← at-5 .before .alike5 .ensures, at-5 .if5 .left, ← c .before .alike6 .ensures, c .if6 .taken)))
 
 further-header-requires : tie.Need-further-header-requires
 further-header-requires c κs = search needs
@@ -98,7 +104,10 @@ returns-7 c =
     let at-3 = at-4 .before .before .before in
     let at-2 = at-3 .before .before .before in
     let at-1 = at-2 .before .before .before in
-    rw (← at-1 .before .alike .ensures, at-1 .if1 .left, ← at-2 .before .alike2 .ensures, at-2 .if2 .left, ← at-3 .before .alike3 .ensures, at-3 .if3 .left, ← at-4 .before .alike4 .ensures, at-4 .if4 .left, ← at-5 .before .alike5 .ensures, at-5 .if5 .left, ← at-6 .before .alike6 .ensures, at-6 .if6 .left) (c .further-header .ensures)
+    rw (← at-1 .before .alike .ensures, at-1 .if1 .left, ← at-2 .before .alike2 .ensures, at-2 .if2 .left)
+    (rw (← at-3 .before .alike3 .ensures, at-3 .if3 .left, ← at-4 .before .alike4 .ensures, at-4 .if4 .left)
+    (rw (← at-5 .before .alike5 .ensures, at-5 .if5 .left, ← at-6 .before .alike6 .ensures, at-6 .if6 .left)
+    (c .further-header .ensures)))
 
 pub header-of-spec : {M : Type 1} → statement M
 header-of-spec =

@@ -23,7 +23,9 @@ has-colon-requires : tie.Need-has-colon-requires
 has-colon-requires c κs = search needs
 
 add-t10 : tie.Need-add-t10
-add-t10 c = omega (arith, colon-in (now (c .before .before .before .before .before .args .text)) (c .before .before .before .run-end .result) (sym (c .before .has-colon .ensures) ∙ c .if1 .taken))
+add-t10 c =
+    let text = now (c .before .before .before .before .before .args .text) in
+    omega (arith, colon-in text (c .before .before .before .run-end .result) (sym (c .before .has-colon .ensures) ∙ c .if1 .taken))
 
 header-of-requires : tie.Need-header-of-requires
 header-of-requires c κs = search needs

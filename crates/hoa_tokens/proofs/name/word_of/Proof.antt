@@ -39,7 +39,8 @@ unfolding wordOf bytes
 returns-3 c =
     let at-2 = c .before .before .before in
     let at-1 = at-2 .before .before .before in
-    rw (← at-1 .before .alike .ensures, at-1 .if1 .left, ← at-2 .before .alike2 .ensures, at-2 .if2 .left, ← c .before .alike3 .ensures, c .if3 .taken)
+    rw (← at-1 .before .alike .ensures, at-1 .if1 .left, ← at-2 .before .alike2 .ensures, at-2 .if2 .left)
+    (rw (← c .before .alike3 .ensures, c .if3 .taken))
 
 slice-aggregate-alike-4 : tie.Need-slice-aggregate-alike-4
 slice-aggregate-alike-4 c = search needs
@@ -53,7 +54,8 @@ returns-4 c =
     let at-3 = c .before .before .before in
     let at-2 = at-3 .before .before .before in
     let at-1 = at-2 .before .before .before in
-    rw (← at-1 .before .alike .ensures, at-1 .if1 .left, ← at-2 .before .alike2 .ensures, at-2 .if2 .left, ← at-3 .before .alike3 .ensures, at-3 .if3 .left, ← c .before .alike4 .ensures, c .if4 .taken)
+    rw (← at-1 .before .alike .ensures, at-1 .if1 .left, ← at-2 .before .alike2 .ensures, at-2 .if2 .left)
+    (rw (← at-3 .before .alike3 .ensures, at-3 .if3 .left, ← c .before .alike4 .ensures, c .if4 .taken))
 
 slice-aggregate-alike-5 : tie.Need-slice-aggregate-alike-5
 slice-aggregate-alike-5 c = search needs
@@ -68,7 +70,9 @@ returns-5 c =
     let at-3 = at-4 .before .before .before in
     let at-2 = at-3 .before .before .before in
     let at-1 = at-2 .before .before .before in
-    rw (← at-1 .before .alike .ensures, at-1 .if1 .left, ← at-2 .before .alike2 .ensures, at-2 .if2 .left, ← at-3 .before .alike3 .ensures, at-3 .if3 .left, ← at-4 .before .alike4 .ensures, at-4 .if4 .left, ← c .before .alike5 .ensures, c .if5 .taken)
+    rw (← at-1 .before .alike .ensures, at-1 .if1 .left, ← at-2 .before .alike2 .ensures, at-2 .if2 .left)
+    (rw (← at-3 .before .alike3 .ensures, at-3 .if3 .left, ← at-4 .before .alike4 .ensures, at-4 .if4 .left)
+    (rw (← c .before .alike5 .ensures, c .if5 .taken)))
 
 returns-6 : tie.Need-returns-6
 unfolding wordOf bytes
@@ -78,7 +82,9 @@ returns-6 c =
     let at-3 = at-4 .before .before .before in
     let at-2 = at-3 .before .before .before in
     let at-1 = at-2 .before .before .before in
-    rw (← at-1 .before .alike .ensures, at-1 .if1 .left, ← at-2 .before .alike2 .ensures, at-2 .if2 .left, ← at-3 .before .alike3 .ensures, at-3 .if3 .left, ← at-4 .before .alike4 .ensures, at-4 .if4 .left, ← at-5 .before .alike5 .ensures, at-5 .if5 .left)
+    rw (← at-1 .before .alike .ensures, at-1 .if1 .left, ← at-2 .before .alike2 .ensures, at-2 .if2 .left)
+    (rw (← at-3 .before .alike3 .ensures, at-3 .if3 .left, ← at-4 .before .alike4 .ensures, at-4 .if4 .left)
+    (rw (← at-5 .before .alike5 .ensures, at-5 .if5 .left)))
 
 pub word-of-spec : {M : Type 1} → statement M
 word-of-spec =

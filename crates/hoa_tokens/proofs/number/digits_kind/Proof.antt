@@ -22,7 +22,9 @@ spell-requires-2 : tie.Need-spell-requires-2
 spell-requires-2 c κs = search needs
 
 returns-3 : tie.Need-returns-3
-returns-3 c = record { says = λ text a b. c .spell2 .ensures .says text a b ∙ sym (digits-long (now (c .before .before .before .before .before .args .digits)) (c .before .if2 .left)) }
+returns-3 c =
+    let ds = now (c .before .before .before .before .before .args .digits) in
+    record { says = λ text a b. c .spell2 .ensures .says text a b ∙ sym (digits-long ds (c .before .if2 .left)) }
 
 pub digits-kind-spec : {M : Type 1} → statement M
 digits-kind-spec =

@@ -28,7 +28,8 @@ returns-2 : tie.Need-returns-2
 returns-2 c =
     let entry = c .before .before .before in
     let a = entry .args in
-    record { goes = omega arith; within = omega (arith, entry .pre); same = quote-last (now (a .text)) (a .at) (entry .pre .within) (entry .pre .other) (c .before .if1 .left) (omega arith) }
+    let same = quote-last (now (a .text)) (a .at) (entry .pre .within) (entry .pre .other) (c .before .if1 .left) (omega arith) in
+    record { goes = omega arith; within = omega (arith, entry .pre); same = same }
 
 add-result-3 : tie.Need-add-result-3
 add-result-3 c = search needs

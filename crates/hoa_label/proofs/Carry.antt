@@ -37,6 +37,7 @@ placedBy inside after stop (wrong n) place ps = stop n place
 
 module _ {R : Type 0} (a : ℕ) (inside : LabelState → List Placed → R) (after : ℕ → List Placed → R) (stop : ℕ → ℕ → R)
     (follows : (s : LabelState) (p : Placed) (ps : List Placed) → inside s (p ∷ ps) ≡ placedBy inside after stop (labelStep a s (p .token)) (p .place) ps) where
+  -- the first step of a run that shuts the label
   on-shut : (x : ℕ) (qs : List Placed) (d : LabelStep) (place : ℕ) (ps : List Placed)
       → ((s : LabelState) → labelRun a s ps ≡ shutAt x qs → inside s ps ≡ after x qs)
       → endBy d place ps (λ s. labelRun a s ps) ≡ shutAt x qs → placedBy inside after stop d place ps ≡ after x qs
@@ -50,6 +51,7 @@ module _ {R : Type 0} (a : ℕ) (inside : LabelState → List Placed → R) (aft
   carry-shut x qs [] s e = cut-shut e
   carry-shut x qs (p ∷ ps) s e = follows s p ps ∙ on-shut x qs (labelStep a s (p .token)) (p .place) ps (carry-shut x qs ps) e
 
+  -- the first step of a run that stops
   on-wrong : (n q : ℕ) (d : LabelStep) (place : ℕ) (ps : List Placed) → ((s : LabelState) → labelRun a s ps ≡ wrongAt n q → inside s ps ≡ stop n q)
       → endBy d place ps (λ s. labelRun a s ps) ≡ wrongAt n q → placedBy inside after stop d place ps ≡ stop n q
   on-wrong n q (go s) place ps more e = more s e
@@ -64,6 +66,7 @@ module _ {R : Type 0} (a : ℕ) (inside : LabelState → List Placed → R) (aft
 
 -- ---- tokens alone
 
+-- the machine behind a step
 abbrev pub carriedBy : {R : Type 0} → (LabelState → List Token → R) → (ℕ → List Token → R) → (ℕ → R) → LabelStep → List Token → R
 carriedBy inside after stop (go s) ts = inside s ts
 carriedBy inside after stop (shut x) ts = after x ts
@@ -71,9 +74,11 @@ carriedBy inside after stop (wrong n) ts = stop n
 
 module _ {R : Type 0} (levels a : ℕ) (inside : LabelState → List Token → R) (after : ℕ → List Token → R) (stop : ℕ → R)
     (follows : (s : LabelState) (t : Token) (ts : List Token) → inside s (t ∷ ts) ≡ carriedBy inside after stop (stepWithin levels a s t) ts) where
+  -- the walk of a label
   abbrev walk : LabelState → List Token → LabelWalk
   walk s ts = walkWithin levels a s ts
 
+  -- the first step of a walk that shuts the label
   on-closed : (x : ℕ) (us : List Token) (d : LabelStep) (ts : List Token) → ((s : LabelState) → walk s ts ≡ closed x us → inside s ts ≡ after x us)
       → walkBy d ts (λ s. walk s ts) ≡ closed x us → carriedBy inside after stop d ts ≡ after x us
   on-closed x us (go s) ts more e = more s e
@@ -86,6 +91,7 @@ module _ {R : Type 0} (levels a : ℕ) (inside : LabelState → List Token → R
   carry-closed x us [] s e = closed-going (sym e)
   carry-closed x us (t ∷ ts) s e = follows s t ts ∙ on-closed x us (stepWithin levels a s t) ts (carry-closed x us ts) e
 
+  -- the first step of a walk that stops
   on-faulty : (n : ℕ) (d : LabelStep) (ts : List Token) → ((s : LabelState) → walk s ts ≡ faulty n → inside s ts ≡ stop n)
       → walkBy d ts (λ s. walk s ts) ≡ faulty n → carriedBy inside after stop d ts ≡ stop n
   on-faulty n (go s) ts more e = more s e
@@ -98,6 +104,7 @@ module _ {R : Type 0} (levels a : ℕ) (inside : LabelState → List Token → R
   carry-faulty n [] s e = faulty-going (sym e)
   carry-faulty n (t ∷ ts) s e = follows s t ts ∙ on-faulty n (stepWithin levels a s t) ts (carry-faulty n ts) e
 
+  -- the first step of a walk that goes on
   on-going : (u : LabelState) (us : List Token) (d : LabelStep) (ts : List Token) → ((s : LabelState) → walk s ts ≡ going u → inside s (ts ++ us) ≡ inside u us)
       → walkBy d ts (λ s. walk s ts) ≡ going u → carriedBy inside after stop d (ts ++ us) ≡ inside u us
   on-going u us (go s) ts more e = more s e

@@ -22,6 +22,7 @@ gives a text r = labelRun a labelBegin (tokensAt text 0) ≡ labelEnd text r
 abbrev mixed : Label
 mixed = or (and (negated (prop 0)) (factor (prop 1))) (conj (factor (prop 2)))
 
+-- the examples
 pub record Examples : Type 0 where
   -- the set of `!0&1|2`, and the label whose tokens these are
   pub mixed-read : gives 3 (bytes "!0&1|2] 5") (Shut 17651002172490708212 7)
@@ -50,6 +51,7 @@ pub record Examples : Type 0 where
   pub too-deep : gives 0 (replicate 257 40) (Refused 42 256)
   pub deep-enough : gives 0 (replicate 256 40) (Refused 40 256)
 
+-- they hold by computing
 pub examples : Examples
 unfolding tokensAt some first gapOf isBlank front isDigit isCapital isLetter isName run number isInt spelt named wordOf headerOf furtherHeader quoted at fixed signOf
     bytes same full propSet wanted behind stepWithin labelStep walkWithin labelRun labelText labelHolds valuation

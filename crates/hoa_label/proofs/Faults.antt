@@ -76,6 +76,7 @@ shutters [] = sign sign-is.BracketRight ∷ []
 shutters (f ∷ fs) = sign sign-is.ParenRight ∷ shutters fs
 
 module _ (S D : Type 0) (levels a : ℕ) where
+  -- they end every level
   shut-ends : (fs : List Frame) → Ends S D levels a [] (length fs) (shutters fs)
   unfolding shutters
   shut-ends [] = last
@@ -88,6 +89,7 @@ module _ (S D : Type 0) (levels a : ℕ) where
     flat : D → factorDepth first ≡ 0
     text : ts ≡ factorText first (shutters fs)
 
+  -- it leads on from where a factor is wanted
   lone : {fs : List Frame} {ts : List Token} → Lone fs ts → Few S D levels a [] fs → Factored S D levels a [] (length fs) ts
   lone {fs} l h =
       record {
@@ -105,6 +107,7 @@ module _ (S D : Type 0) (levels a : ℕ) where
     deep : D → labelDepth label ≤ levels
     text : labelText label (sign sign-is.BracketRight ∷ []) ≡ ts
 
+  -- tokens that lead to a state, and what leads on from it, are a label
   begun : (u : LabelState) (ts us : List Token) → walkWithin levels a labelBegin ts ≡ going u
       → (Few S D levels a [] (framesOf S D levels a [] u) → Rests S D levels a [] u us) → Begun (ts ++ us)
   begun u ts us e r =
@@ -116,6 +119,7 @@ module _ (S D : Type 0) (levels a : ℕ) where
         text = sym (w .text ∙ ap (labelText (w .label)) (w .shuts));
       }
 
+-- such a label fits
 fitting : (levels a : ℕ) (ts us : List Token) → Begun Unit Unit levels a (ts ++ us) → Begins (Within levels a) ts
 fitting levels a ts us b = record { label = b .label; kind = record { fits = b .fits tt; deep = b .deep tt }; more = us; text = b .text }
 
@@ -136,6 +140,7 @@ shut-begins levels a x ts e =
 
 -- ---- why a token is refused
 
+-- whether it is `--ABORT--`
 isAbort : Token → Bool
 isAbort abort = true
 isAbort (int i) = false
@@ -149,6 +154,7 @@ isAbort end = false
 isAbort finish = false
 isAbort bad = false
 
+-- which is told by that test
 not-abort : (t : Token) → isAbort t ≡ false → t ≡ abort → ⊥
 unfolding isAbort
 not-abort t q e = false≢true (sym q ∙ ap isAbort e)
@@ -162,20 +168,24 @@ module _ (levels a : ℕ) where
     unfit : (us : List Token) → Rests ⊥ ⊥ levels a [] s (t ∷ us) → Cause s t 41
     deep : (us : List Token) → Rests Unit ⊥ levels a [] s (t ∷ us) → Cause s t 42
 
+  -- a step that refuses has its cause
   abbrev Blamed : LabelState → Token → LabelStep → Type 0
   Blamed s t (go u) = Unit
   Blamed s t (shut x) = Unit
   Blamed s t (wrong n) = Cause s t n
 
+  -- without a limit nothing is asked of the levels
   none : (fs : List Frame) → Few ⊥ ⊥ levels a [] fs
   none fs k = absurd k
 
+  -- an INT
   blame-int : (below : Bool) (i : ℕ) (f : Frame) (fs : List Frame)
       → Blamed (wants f fs) (int i) (onWanted f fs (cond below (wanted-is.Set (propSet i)) (wanted-is.Wrong 41)))
   unfolding labelText
   blame-int true i f fs = tt
   blame-int false i f fs = unfit (shutters fs) (lone ⊥ ⊥ levels a (record { first = prop i; fits = absurd; flat = absurd; text = refl }) (none fs))
 
+  -- a `(`
   blame-level : (room : Bool) (f : Frame) (fs : List Frame)
       → Blamed (wants f fs) (sign sign-is.ParenLeft) (onWanted f fs (cond room wanted-is.Deeper (wanted-is.Wrong 42)))
   unfolding labelText labelFits
@@ -184,6 +194,7 @@ module _ (levels a : ℕ) where
       deep (word word-is.True ∷ sign sign-is.ParenRight ∷ shutters fs)
       (lone Unit ⊥ levels a (record { first = nested (conj (factor truth)); fits = λ k. tt; flat = absurd; text = refl }) absurd)
 
+  -- a word where a factor is wanted
   blame-word : (w : Word) (f : Frame) (fs : List Frame) → Blamed (wants f fs) (word w) (onWanted f fs (wantedWord w))
   unfolding isAbort
   blame-word word-is.True f fs = tt
@@ -193,6 +204,7 @@ module _ (levels a : ℕ) where
   blame-word word-is.Fin f fs = syntax refl
   blame-word word-is.Other f fs = syntax refl
 
+  -- a mark where a factor is wanted
   blame-sign : (s : Sign) (f : Frame) (fs : List Frame) → Blamed (wants f fs) (sign s) (onWanted f fs (wantedSign (ltb (length fs) levels) s))
   unfolding isAbort
   blame-sign sign-is.ParenLeft f fs = blame-level (ltb (length fs) levels) f fs
@@ -205,6 +217,7 @@ module _ (levels a : ℕ) where
   blame-sign sign-is.And f fs = syntax refl
   blame-sign sign-is.Or f fs = syntax refl
 
+  -- a token where a factor is wanted
   blame-wanted : (t : Token) (f : Frame) (fs : List Frame) → Blamed (wants f fs) t (onWanted f fs (wanted a (ltb (length fs) levels) t))
   unfolding isAbort wanted labelText
   blame-wanted (int i) f fs = blame-int (ltb i a) i f fs
@@ -219,16 +232,19 @@ module _ (levels a : ℕ) where
   blame-wanted finish f fs = syntax refl
   blame-wanted bad f fs = syntax refl
 
+  -- a `)`
   blame-shut : (o k : ℕ) (fs : List Frame) → Blamed (has o k fs) (sign sign-is.ParenRight) (onBehind o k fs (behindSign (isOutermost fs) sign-is.ParenRight))
   unfolding isAbort
   blame-shut o k [] = syntax refl
   blame-shut o k (f ∷ fs) = tt
 
+  -- a `]`
   blame-end : (o k : ℕ) (fs : List Frame) → Blamed (has o k fs) (sign sign-is.BracketRight) (onBehind o k fs (behindSign (isOutermost fs) sign-is.BracketRight))
   unfolding isAbort
   blame-end o k [] = tt
   blame-end o k (f ∷ fs) = syntax refl
 
+  -- a mark behind a factor
   behind-sign : (s : Sign) (o k : ℕ) (fs : List Frame) → Blamed (has o k fs) (sign s) (onBehind o k fs (behindSign (isOutermost fs) s))
   unfolding isAbort
   behind-sign sign-is.And o k fs = tt
@@ -241,6 +257,7 @@ module _ (levels a : ℕ) where
   behind-sign sign-is.BraceRight o k fs = syntax refl
   behind-sign sign-is.Not o k fs = syntax refl
 
+  -- a token behind a factor
   blame-behind : (t : Token) (o k : ℕ) (fs : List Frame) → Blamed (has o k fs) t (onBehind o k fs (behind (isOutermost fs) t))
   unfolding isAbort behind
   blame-behind (sign s) o k fs = behind-sign s o k fs
@@ -255,6 +272,7 @@ module _ (levels a : ℕ) where
   blame-behind finish o k fs = syntax refl
   blame-behind bad o k fs = syntax refl
 
+  -- any token
   blame : (s : LabelState) (t : Token) → Blamed s t (stepWithin levels a s t)
   unfolding stepWithin
   blame (wants f fs) t = blame-wanted t f fs
@@ -262,6 +280,7 @@ module _ (levels a : ℕ) where
 
   -- ---- the faulty token
 
+  -- by its cause
   at-fault : (ts : List Token) (s : LabelState) (t : Token) (n : ℕ) → walkWithin levels a labelBegin ts ≡ going s
       → walkWithin levels a labelBegin (ts ++ t ∷ []) ≡ faulty n → Cause s t n → Fault levels a ts t n
   at-fault ts s t n e w (syntax q) = no-label (not-abort t q) (no-syntax-fault levels a (ts ++ t ∷ []) w)
@@ -287,6 +306,7 @@ module _ (levels a : ℕ) where
 
 -- ---- one number
 
+-- a label that fits is a label
 any-of : (a : ℕ) (ts : List Token) → Begins (Fitting a) ts → Begins Any ts
 any-of a ts b = record { label = b .label; kind = record {}; more = b .more; text = b .text }
 
@@ -304,17 +324,20 @@ one-fault levels a ts t n m (too-deep x y) (too-deep p q) = refl
 
 -- ---- exactly so
 
+-- no label that fits begins with a faulty token
 none-within : (levels a : ℕ) (ts : List Token) (t : Token) (n : ℕ) → Fault levels a ts t n → Begins (Within levels a) (ts ++ t ∷ []) → ⊥
 none-within levels a ts t n (no-label x y) b = y (record { label = b .label; kind = record {}; more = b .more; text = b .text })
 none-within levels a ts t n (none-fits x y) b = y (record { label = b .label; kind = record { fits = b .kind .fits }; more = b .more; text = b .text })
 none-within levels a ts t n (too-deep x y) b = y b
 
+-- what 40 says
 forty : (levels a : ℕ) (ts : List Token) (t : Token) (n : ℕ) → n ≡ 40 → Fault levels a ts t n → (t ≡ abort → ⊥) × (Begins Any (ts ++ t ∷ []) → ⊥)
 forty levels a ts t n e (no-label x y) = (x, y)
 forty levels a ts t n e (none-fits x y) = absurd (omega arith)
 forty levels a ts t n e (too-deep x y) = absurd (omega arith)
 
 module _ (levels a : ℕ) (ts : List Token) (s : LabelState) (t : Token) (e : walkWithin levels a labelBegin ts ≡ going s) where
+  -- a faulty token is neither admitted nor does it shut the label
   by-step : (d : LabelStep) (n : ℕ) → stepWithin levels a s t ≡ d → Fault levels a ts t n → d ≡ wrong n
   by-step (go u) n q f =
       absurd (none-within levels a ts t n f

@@ -40,33 +40,42 @@ use Rattle.hoa_label.proofs.Meaning.{meaning}
 
 -- ---- the ends of a run differ
 
+-- refused is not shut
 pub wrong-shut : {C : Type 0} {n p x : ℕ} {ps : List Placed} → wrongAt n p ≡ shutAt x ps → C
 wrong-shut e = let z : _≡_ {A = ℕ} 0 1 = cc in absurd (omega arith)
 
+-- cut is not shut
 pub cut-shut : {C : Type 0} {x : ℕ} {ps : List Placed} → cut ≡ shutAt x ps → C
 cut-shut e = let z : _≡_ {A = ℕ} 0 1 = cc in absurd (omega arith)
 
+-- cut is not refused
 pub cut-wrong : {C : Type 0} {n p : ℕ} → cut ≡ wrongAt n p → C
 cut-wrong e = let z : _≡_ {A = ℕ} 0 1 = cc in absurd (omega arith)
 
+-- the set is one
 pub shut-set : {x y : ℕ} {ps qs : List Placed} → shutAt x ps ≡ shutAt y qs → x ≡ y
 shut-set e = cc
 
+-- what follows is one
 pub shut-rest : {x y : ℕ} {ps qs : List Placed} → shutAt x ps ≡ shutAt y qs → ps ≡ qs
 shut-rest e = cc
 
+-- the number is one
 pub wrong-number : {n m p q : ℕ} → wrongAt n p ≡ wrongAt m q → n ≡ m
 wrong-number e = cc
 
+-- the place is one
 pub wrong-place : {n m p q : ℕ} → wrongAt n p ≡ wrongAt m q → p ≡ q
 wrong-place e = cc
 
 -- ---- a run is a walk
 
 module _ (a : ℕ) where
+  -- the walk with the levels that are allowed
   abbrev walk : LabelState → List Token → LabelWalk
   walk s ts = walkWithin mostLevels a s ts
 
+  -- the first step of a run that shuts the label
   by-shut : (x : ℕ) (qs : List Placed) (d : LabelStep) (p : ℕ) (ps : List Placed)
       → ((s : LabelState) → labelRun a s ps ≡ shutAt x qs → walk s (tokensOf ps) ≡ closed x (tokensOf qs))
       → endBy d p ps (λ s. labelRun a s ps) ≡ shutAt x qs → walkBy d (tokensOf ps) (λ s. walk s (tokensOf ps)) ≡ closed x (tokensOf qs)
@@ -91,6 +100,7 @@ module _ (a : ℕ) where
     stops : stepWithin mostLevels a state (token .token) ≡ wrong n
     there : token .place ≡ place
 
+  -- the first step of a run that stops
   by-wrong : (n place : ℕ) (s : LabelState) (d : LabelStep) (p : Placed) (ps : List Placed) → labelStep a s (p .token) ≡ d
       → ((u : LabelState) → labelRun a u ps ≡ wrongAt n place → Stopped u ps n place)
       → endBy d (p .place) ps (λ u. labelRun a u ps) ≡ wrongAt n place → Stopped s (p ∷ ps) n place
@@ -111,6 +121,7 @@ module _ (a : ℕ) where
   by-wrong n place s (wrong m) p ps q more e =
       record { before = []; token = p; after = ps; split = refl; state = s; goes = refl; stops = q ∙ ap wrong (wrong-number e); there = wrong-place e }
 
+  -- such is every run that stops
   run-wrong : (n place : ℕ) (ps : List Placed) (s : LabelState) → labelRun a s ps ≡ wrongAt n place → Stopped s ps n place
   unfolding labelRun
   run-wrong n place [] s e = cut-wrong e
@@ -122,6 +133,7 @@ module _ (a : ℕ) where
     runs : labelRun a s ps ≡ shutAt x rest
     tokens : tokensOf rest ≡ ts
 
+  -- the first step of a walk that shuts the label
   by-closed : (x : ℕ) (ts : List Token) (s : LabelState) (d : LabelStep) (p : Placed) (ps : List Placed) → labelStep a s (p .token) ≡ d
       → ((u : LabelState) → walk u (tokensOf ps) ≡ closed x ts → Shuts u ps x ts)
       → walkBy d (tokensOf ps) (λ u. walk u (tokensOf ps)) ≡ closed x ts → Shuts s (p ∷ ps) x ts
@@ -133,6 +145,7 @@ module _ (a : ℕ) where
       record { rest = ps; runs = ap (λ (d : LabelStep). endBy d (p .place) ps (λ v. labelRun a v ps)) q ∙ cc (closed-set e); tokens = closed-rest e }
   by-closed x ts s (wrong n) p ps q more e = closed-faulty (sym e)
 
+  -- its run does so too
   walk-closed : (x : ℕ) (ts : List Token) (ps : List Placed) (s : LabelState) → walk s (tokensOf ps) ≡ closed x ts → Shuts s ps x ts
   unfolding walkWithin labelStep
   walk-closed x ts [] s e = closed-going (sym e)
@@ -159,11 +172,13 @@ pub record IsRead (text : List ℕ) (l : Label) (rest : List Token) (r : LabelRe
   pub right : set ≡ labelSet l
   pub follows : tokensOf (tokensAt text next) ≡ rest
 
+-- wherever its tokens stand in a text
 pub label-is-read : (text : List ℕ) (at a : ℕ) (r : LabelRead) (l : Label) (rest : List Token) → LabelAt text at a r → Within mostLevels a l
     → tokensOf (tokensAt text at) ≡ labelText l (sign sign-is.BracketRight ∷ rest) → IsRead text l rest r
 label-is-read text at a r l rest h w e =
     given r (h .is) (walk-closed a (labelSet l) rest (tokensAt text at) labelBegin (ap (walkWithin mostLevels a labelBegin) e ∙ complete mostLevels a l rest w))
   where
+    -- a refusal does not agree with that
     given : (r : LabelRead) → labelRun a labelBegin (tokensAt text at) ≡ labelEnd text r → Shuts a labelBegin (tokensAt text at) (labelSet l) rest → IsRead text l rest r
     given (Shut set next) q s =
         let d = sym q ∙ s .runs in

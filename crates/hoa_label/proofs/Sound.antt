@@ -68,16 +68,19 @@ andFront : Lfactor → Label → Label
 andFront x (conj c) = conj (and x c)
 andFront x (or c l) = or (and x c) l
 
+-- its tokens
 front-text : (x : Lfactor) (l : Label) (rest : List Token) → labelText (andFront x l) rest ≡ factorText x (sign sign-is.And ∷ labelText l rest)
 unfolding andFront labelText
 front-text x (conj c) rest = refl
 front-text x (or c l) rest = refl
 
+-- it fits
 front-fits : (x : Lfactor) (l : Label) (a : ℕ) → factorFits x a → labelFits l a → labelFits (andFront x l) a
 unfolding andFront labelFits
 front-fits x (conj c) a f g = (f, g)
 front-fits x (or c l) a f g = ((f, g .0), g .1)
 
+-- it is as deep as its parts
 front-deep : (x : Lfactor) (l : Label) (d levels : ℕ) → factorDepth x + d ≤ levels → labelDepth l + d ≤ levels → labelDepth (andFront x l) + d ≤ levels
 unfolding andFront labelDepth
 front-deep x (conj c) d levels f g = omega arith
@@ -148,6 +151,7 @@ module _ (S D : Type 0) (levels a : ℕ) (rest : List Token) where
 
   -- ---- one token in front
 
+  -- the levels outside
   abbrev pub framesOf : LabelState → List Frame
   framesOf (wants f fs) = fs
   framesOf (has o k fs) = fs
@@ -173,6 +177,7 @@ module _ (S D : Type 0) (levels a : ℕ) (rest : List Token) where
         → Ends (length (framesOf s)) ts → Factored (length (framesOf s)) (t ∷ ts)
     lone y t s f d q h e = record { first = y; fit = record { fits = f; deep = λ k. omega (arith, h k) }; after = ts; text = q; ends = e }
 
+    -- a word
     by-word : (w : Word) (f : Frame) (fs : List Frame) → Few fs
         → Next (onWanted f fs (wantedWord w)) ts → Factored (length fs) (word w ∷ ts)
     unfolding labelText labelFits labelDepth
@@ -183,6 +188,7 @@ module _ (S D : Type 0) (levels a : ℕ) (rest : List Token) where
     by-word word-is.Fin f fs h e = absurd e
     by-word word-is.Other f fs h e = absurd e
 
+    -- an INT
     by-int : (below : Bool) (i : ℕ) (f : Frame) (fs : List Frame) → ltb i a ≡ below → Few fs
         → Next (onWanted f fs (cond below (wanted-is.Set (propSet i)) (wanted-is.Wrong 41))) ts
         → Factored (length fs) (int i ∷ ts)
@@ -190,6 +196,7 @@ module _ (S D : Type 0) (levels a : ℕ) (rest : List Token) where
     by-int true i f fs q h e = lone (prop i) (int i) (has 0 0 fs) (λ k. ltb-true i a q) refl refl h (e h)
     by-int false i f fs q h e = absurd e
 
+    -- a `!`
     flip : {d : ℕ} → Factored d ts → Factored d (sign sign-is.Not ∷ ts)
     unfolding labelText labelFits labelDepth
     flip w =
@@ -213,15 +220,18 @@ module _ (S D : Type 0) (levels a : ℕ) (rest : List Token) where
           ends = w .shuts .1 .1;
         }
 
+    -- the pieces of a level, gathered
     pub whole : {d : ℕ} → Factored d ts → Whole d ts
     whole w = rw (w .text) (gather (w .first) (w .fit) (w .ends))
 
+    -- a `(`
     by-level : (room : Bool) (f : Frame) (fs : List Frame) → ltb (length fs) levels ≡ room
         → Next (onWanted f fs (cond room wanted-is.Deeper (wanted-is.Wrong 42))) ts
         → Factored (length fs) (sign sign-is.ParenLeft ∷ ts)
     by-level true f fs q e = bracket (whole (e (λ k. ltb-true (length fs) levels q)))
     by-level false f fs q e = absurd e
 
+    -- a mark where a factor is wanted
     by-sign : (s : Sign) (f : Frame) (fs : List Frame) → Few fs
         → Next (onWanted f fs (wantedSign (ltb (length fs) levels) s)) ts → Factored (length fs) (sign s ∷ ts)
     by-sign sign-is.ParenLeft f fs h e = by-level (ltb (length fs) levels) f fs refl e
@@ -250,18 +260,21 @@ module _ (S D : Type 0) (levels a : ℕ) (rest : List Token) where
     front-wants finish f fs h e = absurd e
     front-wants bad f fs h e = absurd e
 
+    -- a `)`
     by-paren : (o k : ℕ) (fs : List Frame) → Few fs
         → Next (onBehind o k fs (behindSign (isOutermost fs) sign-is.ParenRight)) ts
         → Ends (length fs) (sign sign-is.ParenRight ∷ ts)
     by-paren o k [] h e = absurd e
     by-paren o k (f ∷ fs) h e = out (e (λ k. omega (arith, h k)))
 
+    -- a `]`
     by-bracket : (o k : ℕ) (fs : List Frame)
         → Next (onBehind o k fs (behindSign (isOutermost fs) sign-is.BracketRight)) ts
         → Ends (length fs) (sign sign-is.BracketRight ∷ ts)
     by-bracket o k [] e = rw e last
     by-bracket o k (f ∷ fs) e = absurd e
 
+    -- a mark behind a factor
     behind-sign : (s : Sign) (o k : ℕ) (fs : List Frame) → Few fs
         → Next (onBehind o k fs (behindSign (isOutermost fs) s)) ts → Ends (length fs) (sign s ∷ ts)
     behind-sign sign-is.And o k fs h e = let w = e h in more-and (w .first) (w .fit) (w .text) (w .ends)
@@ -290,6 +303,7 @@ module _ (S D : Type 0) (levels a : ℕ) (rest : List Token) where
     front-has finish o k fs h e = absurd e
     front-has bad o k fs h e = absurd e
 
+    -- any token
     front-any : (t : Token) (s : LabelState) → Few (framesOf s)
         → Next (stepWithin levels a s t) ts → Rests s (t ∷ ts)
     unfolding stepWithin
@@ -298,6 +312,7 @@ module _ (S D : Type 0) (levels a : ℕ) (rest : List Token) where
 
   -- ---- many tokens in front
 
+  -- the first step of a walk that goes on
   on-going : (u : LabelState) (ts us : List Token) (d : LabelStep)
       → ((s : LabelState) → walkWithin levels a s ts ≡ going u → Few (framesOf s) → Rests s (ts ++ us))
       → walkBy d ts (λ s. walkWithin levels a s ts) ≡ going u → Next d (ts ++ us)
@@ -312,6 +327,7 @@ module _ (S D : Type 0) (levels a : ℕ) (rest : List Token) where
   pull u us r [] s e h = subst (λ (v : LabelState). Few (framesOf v) → Rests v us) (sym (going-inj e)) r h
   pull u us r (t ∷ ts) s e h = front-any (ts ++ us) t s h (on-going u ts us (stepWithin levels a s t) (pull u us r ts) e)
 
+  -- the first step of a walk that shuts the label
   on-closed : (x : ℕ) (ts : List Token) (d : LabelStep)
       → ((s : LabelState) → walkWithin levels a s ts ≡ closed x rest → Few (framesOf s) → Rests s ts)
       → walkBy d ts (λ s. walkWithin levels a s ts) ≡ closed x rest → Next d ts
@@ -319,6 +335,7 @@ module _ (S D : Type 0) (levels a : ℕ) (rest : List Token) where
   on-closed x ts (shut y) more e = closed-rest e
   on-closed x ts (wrong n) more e = closed-faulty (sym e)
 
+  -- tokens that shut the label lead on to its `]`
   rests : (x : ℕ) (ts : List Token) (s : LabelState) → walkWithin levels a s ts ≡ closed x rest → Few (framesOf s) → Rests s ts
   unfolding walkWithin
   rests x [] s e h = closed-going (sym e)
@@ -333,6 +350,7 @@ pub record Sound (levels a x : ℕ) (ts rest : List Token) : Type 0 where
   pub text : ts ≡ labelText label (sign sign-is.BracketRight ∷ rest)
   pub set : x ≡ labelSet label
 
+-- from its `[` on
 pub sound : (levels a x : ℕ) (ts rest : List Token) → walkWithin levels a labelBegin ts ≡ closed x rest → Sound levels a x ts rest
 sound levels a x ts rest e =
     let w = whole Unit Unit levels a rest ts (rests Unit Unit levels a rest x ts labelBegin e (λ k. omega arith)) in

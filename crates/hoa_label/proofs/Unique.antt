@@ -10,6 +10,7 @@ use Rattle.hoa_label.specs.declared.LabelRead.the-variants.{Shut, Refuse
 use Rattle.hoa_label.specs.Reading.{labelEnd, nextOf, LabelAt}
 use Rattle.hoa_label.proofs.read_label.Reads as read-label
 
+-- two readings with one end and one byte behind it
 same-read : (text : List ℕ) (r s : LabelRead) → labelEnd text r ≡ labelEnd text s → nextOf r ≡ nextOf s → r ≡ s
 same-read text (Shut x m) (Shut y n) e q = cc
 same-read text (Shut x m) (Refused n p) e q = let z : _≡_ {A = ℕ} 0 1 = cc in absurd (omega arith)
@@ -20,5 +21,6 @@ same-read text (Refused n p) (Refused m q) e d = cc
 pub one-reading : (text : List ℕ) (at a : ℕ) (r s : LabelRead) → LabelAt text at a r → LabelAt text at a s → r ≡ s
 one-reading text at a r s p q = same-read text r s (sym (p .is) ∙ q .is) (sym (p .behind) ∙ q .behind)
 
+-- as src/ writes it
 pub read-label-once : OneResult read-label.Post
 read-label-once κ a r s e f p q = one-reading _ _ _ r s p q

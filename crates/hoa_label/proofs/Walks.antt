@@ -8,30 +8,38 @@ use Rattle.hoa_label.specs.Labels.{LabelState, LabelStep, go, shut, wron
 
 -- ---- the ends of a walk differ
 
+-- shut is not going on
 pub closed-going : {C : Type 0} {x : ℕ} {ts : List Token} {s : LabelState} → closed x ts ≡ going s → C
 closed-going e = let z : _≡_ {A = ℕ} 0 1 = cc in absurd (omega arith)
 
+-- a fault is not going on
 pub faulty-going : {C : Type 0} {n : ℕ} {s : LabelState} → faulty n ≡ going s → C
 faulty-going e = let z : _≡_ {A = ℕ} 0 1 = cc in absurd (omega arith)
 
+-- shut is not a fault
 pub closed-faulty : {C : Type 0} {x n : ℕ} {ts : List Token} → closed x ts ≡ faulty n → C
 closed-faulty e = let z : _≡_ {A = ℕ} 0 1 = cc in absurd (omega arith)
 
+-- the state is one
 pub going-inj : {s t : LabelState} → going s ≡ going t → s ≡ t
 going-inj e = cc
 
+-- the set is one
 pub closed-set : {x y : ℕ} {ts us : List Token} → closed x ts ≡ closed y us → x ≡ y
 closed-set e = cc
 
+-- what follows is one
 pub closed-rest : {x y : ℕ} {ts us : List Token} → closed x ts ≡ closed y us → ts ≡ us
 closed-rest e = cc
 
+-- the number is one
 pub faulty-inj : {n m : ℕ} → faulty n ≡ faulty m → n ≡ m
 faulty-inj e = cc
 
 -- ---- a walk in two parts
 
 module _ (levels a : ℕ) where
+  -- the first step of a walk that goes on
   on-step : (d : LabelStep) (t : LabelState) (ts us : List Token)
       → ((u : LabelState) → walkWithin levels a u ts ≡ going t → walkWithin levels a u (ts ++ us) ≡ walkWithin levels a t us)
       → walkBy d ts (λ u. walkWithin levels a u ts) ≡ going t
@@ -46,6 +54,7 @@ module _ (levels a : ℕ) where
   walk-on s t [] us e = ap (λ (u : LabelState). walkWithin levels a u us) (going-inj e)
   walk-on s t (x ∷ ts) us e = on-step (stepWithin levels a s x) t ts us (λ u. walk-on u t ts us) e
 
+  -- the first step of a walk that stops
   stop-step : (d : LabelStep) (n : ℕ) (ts us : List Token)
       → ((u : LabelState) → walkWithin levels a u ts ≡ faulty n → walkWithin levels a u (ts ++ us) ≡ faulty n)
       → walkBy d ts (λ u. walkWithin levels a u ts) ≡ faulty n

@@ -1,8 +1,8 @@
 -- Which token is faulty, and with which number. Tokens that are admitted begin a label that fits (`admitted`: no fault is late); a token that is refused is faulty
--- with its number (`faulty-token`); no token is faulty with two numbers (`one-fault`). Assumes nothing.
+-- with its number (`faulty-token`); no token is faulty with two numbers (`one-fault`), so a token is refused exactly if it is faulty (`fault-exactly`). Assumes nothing.
 use mathlib.Core.Bool.{Bool, true, false, cond, false≢true}
 use mathlib.Core.List.{List, [], _∷_, _++_, append-assoc, append-nil}
-use mathlib.Core.Logic.{_⊎_, inl, inr, ⊎-elim}
+use mathlib.Core.Logic.{_↔_, inl, inr, ⊎-elim}
 use mathlib.Core.Path.{_≡_, refl, sym, ap, subst, _∙_}
 use Prim.Native.Nat.{ℕ, _≤_}
 use native.Mathlib.Omega.{arith}
@@ -14,10 +14,56 @@ use Rattle.hoa_tokens.specs.declared.Sign.{Sign}
 use Rattle.hoa_tokens.specs.declared.Sign.the-variants as sign-is
 use Rattle.hoa_tokens.specs.Token.{Token, int, word, header, str, aname, sign, body, end, abort, finish, bad}
 use Rattle.hoa_label.specs.declared.Wanted.the-variants as wanted-is
-use Rattle.hoa_label.specs.Label.{Label, conj, factor, Lfactor, truth, prop, alias, nested, labelText, labelFits, factorFits, labelDepth, factorDepth, factorText,
-  Any, Fitting, Within, Begins, Fault, no-label, none-fits, too-deep}
-use Rattle.hoa_label.specs.Labels.{propSet, Frame, LabelState, wants, has, labelBegin, LabelStep, go, shut, wrong, stepWithin, wanted, wantedWord,
-  wantedSign, onWanted, behind, behindSign, onBehind, isOutermost, going, closed, faulty, walkBy, walkWithin}
+use Rattle.hoa_label.specs.Label.{
+  Label,
+  conj,
+  factor,
+  Lfactor,
+  truth,
+  prop,
+  alias,
+  nested,
+  labelText,
+  labelFits,
+  factorFits,
+  labelDepth,
+  factorDepth,
+  factorText,
+  Any,
+  Fitting,
+  Within,
+  Begins,
+  Fault,
+  no-label,
+  none-fits,
+  too-deep,
+}
+use Rattle.hoa_label.specs.Labels.{
+  propSet,
+  Frame,
+  LabelState,
+  wants,
+  has,
+  labelBegin,
+  LabelStep,
+  go,
+  shut,
+  wrong,
+  stepWithin,
+  wanted,
+  wantedWord,
+  wantedSign,
+  onWanted,
+  behind,
+  behindSign,
+  onBehind,
+  isOutermost,
+  going,
+  closed,
+  faulty,
+  walkBy,
+  walkWithin,
+}
 use Rattle.hoa_label.proofs.Walks.{walk-one}
 use Rattle.hoa_label.proofs.Complete.{refused, no-syntax-fault, no-early-fault}
 use Rattle.hoa_label.proofs.Sound.{Ends, last, out, Factored, Rests, Few, framesOf, whole, pull, sound}
@@ -30,6 +76,7 @@ shutters [] = sign sign-is.BracketRight ∷ []
 shutters (f ∷ fs) = sign sign-is.ParenRight ∷ shutters fs
 
 module _ (S D : Type 0) (levels a : ℕ) where
+  -- they end every level
   shut-ends : (fs : List Frame) → Ends S D levels a [] (length fs) (shutters fs)
   unfolding shutters
   shut-ends [] = last
@@ -42,6 +89,7 @@ module _ (S D : Type 0) (levels a : ℕ) where
     flat : D → factorDepth first ≡ 0
     text : ts ≡ factorText first (shutters fs)
 
+  -- it leads on from where a factor is wanted
   lone : {fs : List Frame} {ts : List Token} → Lone fs ts → Few S D levels a [] fs → Factored S D levels a [] (length fs) ts
   lone {fs} l h =
       record {
@@ -49,7 +97,8 @@ module _ (S D : Type 0) (levels a : ℕ) where
         fit = record { fits = l .fits; deep = λ k. omega (arith, h k, l .flat k) };
         after = shutters fs;
         text = l .text;
-        ends = shut-ends fs }
+        ends = shut-ends fs;
+      }
 
   -- what a label has whose first tokens lead to a state
   record Begun (ts : List Token) : Type 0 where
@@ -58,16 +107,19 @@ module _ (S D : Type 0) (levels a : ℕ) where
     deep : D → labelDepth label ≤ levels
     text : labelText label (sign sign-is.BracketRight ∷ []) ≡ ts
 
+  -- tokens that lead to a state, and what leads on from it, are a label
   begun : (u : LabelState) (ts us : List Token) → walkWithin levels a labelBegin ts ≡ going u
-    → (Few S D levels a [] (framesOf S D levels a [] u) → Rests S D levels a [] u us) → Begun (ts ++ us)
+      → (Few S D levels a [] (framesOf S D levels a [] u) → Rests S D levels a [] u us) → Begun (ts ++ us)
   begun u ts us e r =
       let w = whole S D levels a [] (ts ++ us) (pull S D levels a [] u us r ts labelBegin e (λ k. omega arith)) in
       record {
         label = w .label;
         fits = w .fits;
         deep = λ k. omega (arith, w .deep k);
-        text = sym (w .text ∙ ap (labelText (w .label)) (w .shuts)) }
+        text = sym (w .text ∙ ap (labelText (w .label)) (w .shuts));
+      }
 
+-- such a label fits
 fitting : (levels a : ℕ) (ts us : List Token) → Begun Unit Unit levels a (ts ++ us) → Begins (Within levels a) ts
 fitting levels a ts us b = record { label = b .label; kind = record { fits = b .fits tt; deep = b .deep tt }; more = us; text = b .text }
 
@@ -88,6 +140,7 @@ shut-begins levels a x ts e =
 
 -- ---- why a token is refused
 
+-- whether it is `--ABORT--`
 isAbort : Token → Bool
 isAbort abort = true
 isAbort (int i) = false
@@ -101,6 +154,7 @@ isAbort end = false
 isAbort finish = false
 isAbort bad = false
 
+-- which is told by that test
 not-abort : (t : Token) → isAbort t ≡ false → t ≡ abort → ⊥
 unfolding isAbort
 not-abort t q e = false≢true (sym q ∙ ap isAbort e)
@@ -114,28 +168,33 @@ module _ (levels a : ℕ) where
     unfit : (us : List Token) → Rests ⊥ ⊥ levels a [] s (t ∷ us) → Cause s t 41
     deep : (us : List Token) → Rests Unit ⊥ levels a [] s (t ∷ us) → Cause s t 42
 
+  -- a step that refuses has its cause
   abbrev Blamed : LabelState → Token → LabelStep → Type 0
   Blamed s t (go u) = Unit
   Blamed s t (shut x) = Unit
   Blamed s t (wrong n) = Cause s t n
 
+  -- without a limit nothing is asked of the levels
   none : (fs : List Frame) → Few ⊥ ⊥ levels a [] fs
   none fs k = absurd k
 
+  -- an INT
   blame-int : (below : Bool) (i : ℕ) (f : Frame) (fs : List Frame)
-    → Blamed (wants f fs) (int i) (onWanted f fs (cond below (wanted-is.Set (propSet i)) (wanted-is.Wrong 41)))
+      → Blamed (wants f fs) (int i) (onWanted f fs (cond below (wanted-is.Set (propSet i)) (wanted-is.Wrong 41)))
   unfolding labelText
   blame-int true i f fs = tt
   blame-int false i f fs = unfit (shutters fs) (lone ⊥ ⊥ levels a (record { first = prop i; fits = absurd; flat = absurd; text = refl }) (none fs))
 
+  -- a `(`
   blame-level : (room : Bool) (f : Frame) (fs : List Frame)
-    → Blamed (wants f fs) (sign sign-is.ParenLeft) (onWanted f fs (cond room wanted-is.Deeper (wanted-is.Wrong 42)))
+      → Blamed (wants f fs) (sign sign-is.ParenLeft) (onWanted f fs (cond room wanted-is.Deeper (wanted-is.Wrong 42)))
   unfolding labelText labelFits
   blame-level true f fs = tt
   blame-level false f fs =
       deep (word word-is.True ∷ sign sign-is.ParenRight ∷ shutters fs)
       (lone Unit ⊥ levels a (record { first = nested (conj (factor truth)); fits = λ k. tt; flat = absurd; text = refl }) absurd)
 
+  -- a word where a factor is wanted
   blame-word : (w : Word) (f : Frame) (fs : List Frame) → Blamed (wants f fs) (word w) (onWanted f fs (wantedWord w))
   unfolding isAbort
   blame-word word-is.True f fs = tt
@@ -145,6 +204,7 @@ module _ (levels a : ℕ) where
   blame-word word-is.Fin f fs = syntax refl
   blame-word word-is.Other f fs = syntax refl
 
+  -- a mark where a factor is wanted
   blame-sign : (s : Sign) (f : Frame) (fs : List Frame) → Blamed (wants f fs) (sign s) (onWanted f fs (wantedSign (ltb (length fs) levels) s))
   unfolding isAbort
   blame-sign sign-is.ParenLeft f fs = blame-level (ltb (length fs) levels) f fs
@@ -157,6 +217,7 @@ module _ (levels a : ℕ) where
   blame-sign sign-is.And f fs = syntax refl
   blame-sign sign-is.Or f fs = syntax refl
 
+  -- a token where a factor is wanted
   blame-wanted : (t : Token) (f : Frame) (fs : List Frame) → Blamed (wants f fs) t (onWanted f fs (wanted a (ltb (length fs) levels) t))
   unfolding isAbort wanted labelText
   blame-wanted (int i) f fs = blame-int (ltb i a) i f fs
@@ -171,16 +232,19 @@ module _ (levels a : ℕ) where
   blame-wanted finish f fs = syntax refl
   blame-wanted bad f fs = syntax refl
 
+  -- a `)`
   blame-shut : (o k : ℕ) (fs : List Frame) → Blamed (has o k fs) (sign sign-is.ParenRight) (onBehind o k fs (behindSign (isOutermost fs) sign-is.ParenRight))
   unfolding isAbort
   blame-shut o k [] = syntax refl
   blame-shut o k (f ∷ fs) = tt
 
+  -- a `]`
   blame-end : (o k : ℕ) (fs : List Frame) → Blamed (has o k fs) (sign sign-is.BracketRight) (onBehind o k fs (behindSign (isOutermost fs) sign-is.BracketRight))
   unfolding isAbort
   blame-end o k [] = tt
   blame-end o k (f ∷ fs) = syntax refl
 
+  -- a mark behind a factor
   behind-sign : (s : Sign) (o k : ℕ) (fs : List Frame) → Blamed (has o k fs) (sign s) (onBehind o k fs (behindSign (isOutermost fs) s))
   unfolding isAbort
   behind-sign sign-is.And o k fs = tt
@@ -193,6 +257,7 @@ module _ (levels a : ℕ) where
   behind-sign sign-is.BraceRight o k fs = syntax refl
   behind-sign sign-is.Not o k fs = syntax refl
 
+  -- a token behind a factor
   blame-behind : (t : Token) (o k : ℕ) (fs : List Frame) → Blamed (has o k fs) t (onBehind o k fs (behind (isOutermost fs) t))
   unfolding isAbort behind
   blame-behind (sign s) o k fs = behind-sign s o k fs
@@ -207,6 +272,7 @@ module _ (levels a : ℕ) where
   blame-behind finish o k fs = syntax refl
   blame-behind bad o k fs = syntax refl
 
+  -- any token
   blame : (s : LabelState) (t : Token) → Blamed s t (stepWithin levels a s t)
   unfolding stepWithin
   blame (wants f fs) t = blame-wanted t f fs
@@ -214,8 +280,9 @@ module _ (levels a : ℕ) where
 
   -- ---- the faulty token
 
+  -- by its cause
   at-fault : (ts : List Token) (s : LabelState) (t : Token) (n : ℕ) → walkWithin levels a labelBegin ts ≡ going s
-    → walkWithin levels a labelBegin (ts ++ t ∷ []) ≡ faulty n → Cause s t n → Fault levels a ts t n
+      → walkWithin levels a labelBegin (ts ++ t ∷ []) ≡ faulty n → Cause s t n → Fault levels a ts t n
   at-fault ts s t n e w (syntax q) = no-label (not-abort t q) (no-syntax-fault levels a (ts ++ t ∷ []) w)
   at-fault ts s t n e w (aborted q) = none-fits (inl q) (no-early-fault levels a (ts ++ t ∷ []) 41 (λ (h : 41 ≡ 42). omega arith) w)
   at-fault ts s t n e w (unfit us r) =
@@ -231,7 +298,7 @@ module _ (levels a : ℕ) where
 
   -- a token that is refused behind tokens that are admitted is faulty with its number
   pub faulty-token : (ts : List Token) (s : LabelState) (t : Token) (n : ℕ) → walkWithin levels a labelBegin ts ≡ going s
-    → stepWithin levels a s t ≡ wrong n → Fault levels a ts t n
+      → stepWithin levels a s t ≡ wrong n → Fault levels a ts t n
   faulty-token ts s t n e q =
       at-fault ts s t n e
       (walk-one levels a labelBegin s ts t e ∙ ap (λ (d : LabelStep). walkBy d [] going) q)
@@ -239,6 +306,7 @@ module _ (levels a : ℕ) where
 
 -- ---- one number
 
+-- a label that fits is a label
 any-of : (a : ℕ) (ts : List Token) → Begins (Fitting a) ts → Begins Any ts
 any-of a ts b = record { label = b .label; kind = record {}; more = b .more; text = b .text }
 
@@ -253,3 +321,36 @@ one-fault levels a ts t n m (none-fits x y) (too-deep p q) = absurd (y p)
 one-fault levels a ts t n m (too-deep x y) (no-label p q) = absurd (q (any-of a (ts ++ t ∷ []) x))
 one-fault levels a ts t n m (too-deep x y) (none-fits p q) = absurd (q x)
 one-fault levels a ts t n m (too-deep x y) (too-deep p q) = refl
+
+-- ---- exactly so
+
+-- no label that fits begins with a faulty token
+none-within : (levels a : ℕ) (ts : List Token) (t : Token) (n : ℕ) → Fault levels a ts t n → Begins (Within levels a) (ts ++ t ∷ []) → ⊥
+none-within levels a ts t n (no-label x y) b = y (record { label = b .label; kind = record {}; more = b .more; text = b .text })
+none-within levels a ts t n (none-fits x y) b = y (record { label = b .label; kind = record { fits = b .kind .fits }; more = b .more; text = b .text })
+none-within levels a ts t n (too-deep x y) b = y b
+
+-- what 40 says
+forty : (levels a : ℕ) (ts : List Token) (t : Token) (n : ℕ) → n ≡ 40 → Fault levels a ts t n → (t ≡ abort → ⊥) × (Begins Any (ts ++ t ∷ []) → ⊥)
+forty levels a ts t n e (no-label x y) = (x, y)
+forty levels a ts t n e (none-fits x y) = absurd (omega arith)
+forty levels a ts t n e (too-deep x y) = absurd (omega arith)
+
+module _ (levels a : ℕ) (ts : List Token) (s : LabelState) (t : Token) (e : walkWithin levels a labelBegin ts ≡ going s) where
+  -- a faulty token is neither admitted nor does it shut the label
+  by-step : (d : LabelStep) (n : ℕ) → stepWithin levels a s t ≡ d → Fault levels a ts t n → d ≡ wrong n
+  by-step (go u) n q f =
+      absurd (none-within levels a ts t n f
+      (admitted levels a (ts ++ t ∷ []) u (walk-one levels a labelBegin s ts t e ∙ ap (λ (d : LabelStep). walkBy d [] going) q)))
+  by-step (shut x) n q f =
+      absurd (none-within levels a ts t n f
+      (shut-begins levels a x (ts ++ t ∷ []) (walk-one levels a labelBegin s ts t e ∙ ap (λ (d : LabelStep). walkBy d [] going) q)))
+  by-step (wrong m) n q f = ap wrong (one-fault levels a ts t m n (faulty-token levels a ts s t m e q) f)
+
+  -- behind tokens that are admitted a token is refused with a number exactly if it is faulty with it
+  pub fault-exactly : (n : ℕ) → (stepWithin levels a s t ≡ wrong n) ↔ Fault levels a ts t n
+  fault-exactly n = (faulty-token levels a ts s t n e, by-step (stepWithin levels a s t) n refl)
+
+  -- with 40 exactly if no label of the grammar begins with the tokens up to it, and it is not `--ABORT--`
+  pub forty-exactly : (stepWithin levels a s t ≡ wrong 40) ↔ ((t ≡ abort → ⊥) × (Begins Any (ts ++ t ∷ []) → ⊥))
+  forty-exactly = (λ q. forty levels a ts t 40 refl (fault-exactly 40 .0 q), λ f. fault-exactly 40 .1 (no-label (f .0) (f .1)))

@@ -1,5 +1,5 @@
 -- The set of valuations that the tokens of a label add up to, from the left. What it means is in Meaning.antt. Assumes nothing.
-use mathlib.Core.Bool.{Bool, true, false, not}
+use mathlib.Core.Bool.{Bool, false, not}
 use Prim.Native.Nat.{ℕ}
 use lib.Bits.{bitAnd, bitOr}
 use Rattle.hoa_label.specs.Label.{Label, conj, or, Lconj, factor, and, Lfactor, truth, falsity, prop, alias, negated, nested}

@@ -33,14 +33,17 @@ mutual
 -- ---- the tokens of a label, and then what follows it
 
 unfoldable mutual
+  -- a label
   pub labelText : Label → List Token → List Token
   labelText (conj c) rest = conjText c rest
   labelText (or c l) rest = conjText c (sign sign-is.Or ∷ labelText l rest)
 
+  -- a conjunction
   pub conjText : Lconj → List Token → List Token
   conjText (factor x) rest = factorText x rest
   conjText (and x c) rest = factorText x (sign sign-is.And ∷ conjText c rest)
 
+  -- a factor
   pub factorText : Lfactor → List Token → List Token
   factorText truth rest = word word-is.True ∷ rest
   factorText falsity rest = word word-is.False ∷ rest
@@ -53,14 +56,17 @@ unfoldable mutual
 
 -- no ANAME, and "each INT in a label is below a"
 unfoldable mutual
+  -- a label
   pub labelFits : Label → ℕ → Type 0
   labelFits (conj c) a = conjFits c a
   labelFits (or c l) a = conjFits c a × labelFits l a
 
+  -- a conjunction
   pub conjFits : Lconj → ℕ → Type 0
   conjFits (factor x) a = factorFits x a
   conjFits (and x c) a = factorFits x a × conjFits c a
 
+  -- a factor
   pub factorFits : Lfactor → ℕ → Type 0
   factorFits truth a = Unit
   factorFits falsity a = Unit
@@ -71,14 +77,17 @@ unfoldable mutual
 
 -- how deep brackets nest: "outside is level 0; `!` opens none"
 unfoldable mutual
+  -- a label
   pub labelDepth : Label → ℕ
   labelDepth (conj c) = conjDepth c
   labelDepth (or c l) = max (conjDepth c) (labelDepth l)
 
+  -- a conjunction
   pub conjDepth : Lconj → ℕ
   conjDepth (factor x) = factorDepth x
   conjDepth (and x c) = max (factorDepth x) (conjDepth c)
 
+  -- a factor
   pub factorDepth : Lfactor → ℕ
   factorDepth truth = 0
   factorDepth falsity = 0
@@ -91,10 +100,11 @@ unfoldable mutual
 abbrev pub mostLevels : ℕ
 mostLevels = 256
 
--- a label with a propositions; one whose brackets nest at most `levels` deep besides
+-- a label with a propositions
 pub record Fitting (a : ℕ) (l : Label) : Type 0 where
   pub fits : labelFits l a
 
+-- such a label whose brackets nest at most `levels` deep
 pub record Within (levels a : ℕ) (l : Label) : Type 0 where
   pub fits : labelFits l a
   pub deep : labelDepth l ≤ levels
@@ -120,14 +130,17 @@ pub data Fault (levels a : ℕ) (ts : List Token) (t : Token) : ℕ → Type 0 w
 
 -- whether it holds where the propositions have these truth values; an ANAME stands for no proposition, and no label that fits has one
 unfoldable mutual
+  -- a label
   pub labelHolds : Label → (ℕ → Bool) → Bool
   labelHolds (conj c) v = conjHolds c v
   labelHolds (or c l) v = conjHolds c v || labelHolds l v
 
+  -- a conjunction
   pub conjHolds : Lconj → (ℕ → Bool) → Bool
   conjHolds (factor x) v = factorHolds x v
   conjHolds (and x c) v = factorHolds x v && conjHolds c v
 
+  -- a factor
   pub factorHolds : Lfactor → (ℕ → Bool) → Bool
   factorHolds truth v = true
   factorHolds falsity v = false

@@ -56,6 +56,7 @@ pub record Frame : Type 0 where
   -- whether the next factor is negated
   pub flipped : Bool
 
+-- a frame by its parts
 abbrev pub frame : ℕ → ℕ → Bool → Frame
 frame o c n = record { ors = o; ands = c; flipped = n }
 
@@ -68,6 +69,7 @@ pub data LabelState : Type 0 where
   wants : Frame → List Frame → LabelState
   has : ℕ → ℕ → List Frame → LabelState
 
+-- behind the `[`
 abbrev pub labelBegin : LabelState
 labelBegin = wants fresh []
 
@@ -86,6 +88,7 @@ wantedWord word-is.Inf = wanted-is.Wrong 40
 wantedWord word-is.Fin = wanted-is.Wrong 40
 wantedWord word-is.Other = wanted-is.Wrong 40
 
+-- a mark, with room for one more level or not
 abbrev pub wantedSign : Bool → Sign → Wanted
 wantedSign room sign-is.ParenLeft = cond room wanted-is.Deeper (wanted-is.Wrong 42)
 wantedSign room sign-is.Not = wanted-is.Not
@@ -123,6 +126,7 @@ behindSign outermost sign-is.BraceLeft = behind-is.Wrong 40
 behindSign outermost sign-is.BraceRight = behind-is.Wrong 40
 behindSign outermost sign-is.Not = behind-is.Wrong 40
 
+-- a token behind a factor
 unfoldable pub behind : Bool → Token → Behind
 behind outermost (sign s) = behindSign outermost s
 behind outermost abort = behind-is.Wrong 41
@@ -138,6 +142,7 @@ behind outermost bad = behind-is.Wrong 40
 
 -- ---- one token
 
+-- what a token does
 pub data LabelStep : Type 0 where
   -- the label goes on
   go : LabelState → LabelStep
@@ -146,6 +151,7 @@ pub data LabelStep : Type 0 where
   -- the token is faulty, with this number
   wrong : ℕ → LabelStep
 
+-- what a token does where a factor is wanted
 abbrev pub onWanted : Frame → List Frame → Wanted → LabelStep
 onWanted f fs (wanted-is.Set x) = go (joined f x fs)
 onWanted f fs wanted-is.Not = go (wants (frame (f .ors) (f .ands) (not (f .flipped))) fs)
@@ -157,12 +163,14 @@ abbrev pub shutLevel : ℕ → List Frame → LabelStep
 shutLevel x [] = shut x
 shutLevel x (f ∷ fs) = go (joined f x fs)
 
+-- what a token does behind a factor
 abbrev pub onBehind : ℕ → ℕ → List Frame → Behind → LabelStep
 onBehind o c fs behind-is.And = go (wants (frame o c false) fs)
 onBehind o c fs behind-is.Or = go (wants (frame (bitOr o c) full false) fs)
 onBehind o c fs behind-is.Shut = shutLevel (bitOr o c) fs
 onBehind o c fs (behind-is.Wrong n) = wrong n
 
+-- whether no level is outside
 abbrev pub isOutermost : List Frame → Bool
 isOutermost [] = true
 isOutermost (f ∷ fs) = false
@@ -172,11 +180,13 @@ unfoldable pub stepWithin : ℕ → ℕ → LabelState → Token → LabelStep
 stepWithin levels a (wants f fs) t = onWanted f fs (wanted a (ltb (length fs) levels) t)
 stepWithin levels a (has o c fs) t = onBehind o c fs (behind (isOutermost fs) t)
 
+-- with the levels that are allowed
 unfoldable pub labelStep : ℕ → LabelState → Token → LabelStep
 labelStep a s t = stepWithin mostLevels a s t
 
 -- ---- tokens without their places
 
+-- what tokens do
 pub data LabelWalk : Type 0 where
   -- all tokens are admitted, and the label is not shut
   going : LabelState → LabelWalk
@@ -185,6 +195,7 @@ pub data LabelWalk : Type 0 where
   -- a token is faulty, with this number
   faulty : ℕ → LabelWalk
 
+-- behind a step the tokens that are left decide
 abbrev pub walkBy : LabelStep → List Token → (LabelState → LabelWalk) → LabelWalk
 walkBy (go s) ts more = more s
 walkBy (shut x) ts more = closed x ts
@@ -197,6 +208,7 @@ walkWithin levels a s (t ∷ ts) = walkBy (stepWithin levels a s t) ts (λ u. wa
 
 -- ---- the tokens of a text
 
+-- how a label in a text ends
 pub data LabelEnd : Type 0 where
   -- the set of valuations, and the tokens behind `]`
   shutAt : ℕ → List Placed → LabelEnd
@@ -205,6 +217,7 @@ pub data LabelEnd : Type 0 where
   -- no token is left
   cut : LabelEnd
 
+-- behind a step at a place the tokens that are left decide
 abbrev pub endBy : LabelStep → ℕ → List Placed → (LabelState → LabelEnd) → LabelEnd
 endBy (go s) place ps more = more s
 endBy (shut x) place ps more = shutAt x ps
@@ -214,3 +227,14 @@ endBy (wrong n) place ps more = wrongAt n place
 unfoldable pub labelRun : ℕ → LabelState → List Placed → LabelEnd
 labelRun a s [] = cut
 labelRun a s (p ∷ ps) = endBy (labelStep a s (p .token)) (p .place) ps (λ t. labelRun a t ps)
+
+-- behind a step whose token ends at `next`
+abbrev pub nextBy : LabelStep → ℕ → (LabelState → ℕ) → ℕ
+nextBy (go s) next more = more s
+nextBy (shut x) next more = next
+nextBy (wrong n) next more = 0
+
+-- the byte behind the token that shuts the label; 0 where none does
+unfoldable pub labelNext : ℕ → LabelState → List Placed → ℕ
+labelNext a s [] = 0
+labelNext a s (p ∷ ps) = nextBy (labelStep a s (p .token)) (p .next) (λ t. labelNext a t ps)

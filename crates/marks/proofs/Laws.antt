@@ -34,7 +34,7 @@ xor-digit a b i =
 pub half-digit : (x i : ℕ) → x / 2 / 2 ^ i % 2 ≡ x / 2 ^ suc i % 2
 half-digit x i = ap (λ (y : ℕ). y % 2) (shr-shr x 1 i ∙ ap (λ (j : ℕ). x / 2 ^ j) (one-add i))
 
-pub low-digit : (x : ℕ) → x / 2 ^ 0 % 2 ≡ x % 2
+low-digit : (x : ℕ) → x / 2 ^ 0 % 2 ≡ x % 2
 low-digit x = omega arith
 
 -- ---- the empty set, and the marks of a half

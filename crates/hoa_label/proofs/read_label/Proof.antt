@@ -1,6 +1,4 @@
 -- `hoa_label::read_label` meets its contract: a label is a level with none outside. Assumes nothing.
-use mathlib.Core.List.{[]}
-use mathlib.Core.Path.{refl}
 use borrow.Author.Needs.{needs}
 use Rattle.hoa_label.proofs.Runs.{label-read}
 use Rattle.hoa_label.proofs.read_label.Statement.{statement}

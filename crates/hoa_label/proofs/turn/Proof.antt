@@ -1,6 +1,4 @@
 -- `hoa_label::turn` meets its contract: the valuations outside a set are those of all 64 that it has not. Assumes nothing.
-use borrow.Author.Needs.{needs}
-use mathlib.Core.Path.{refl}
 use Rattle.hoa_label.specs.Labels.{full}
 use Rattle.hoa_label.proofs.turn.Statement.{statement}
 use Rattle.hoa_label.proofs.turn.Tie as tie

@@ -6,7 +6,7 @@ use mathlib.Core.Option.{Option, some, none}
 use mathlib.Core.Path.{_≡_, refl, sym, ap, subst, _∙_}
 use Prim.Native.Nat.{ℕ, zero, suc, _+_, _≤_, _<_, zero-le}
 use native.Mathlib.Omega.{arith}
-use borrow.Author.Tests.{lt-leb, le-leb}
+use borrow.Author.Tests.{lt-leb, leb-false}
 use lib.Dec.{leb}
 use lib.ListN.{length}
 use Rattle.table.specs.declared.Acceptance.{Acceptance}
@@ -339,3 +339,205 @@ ahead-takes (name bs ∷ is) h f agree g a =
 ahead-takes (properties ws ∷ is) h f agree g a = taken-more (takesProperties ws) (ahead-takes is h f agree g (pass a))
 ahead-takes (capital es ∷ is) h f agree g a = absurd (head-fit (a .fit))
 ahead-takes (lower es ∷ is) h f agree g a = taken-more (takesLower es) (ahead-takes is h f agree g (pass-lower a))
+
+-- ---- from one behind the other to all
+
+no-value : {C : Type 0} {n : ℕ} → Value n ≡ Not → C
+no-value e = absurd (false≢true (sym (ap isGiven e)))
+
+-- what is given is settled, and nothing more is ahead
+unsettle : {A : Type 0} {gives : A → Type 0} {n : ℕ} {f : Given} {xs : List A} → Settles gives (Value n) xs f → (Value n ≡ f) × (xs ≡ [])
+unsettle (nowhere e _ _) = no-value e
+unsettle (ahead x e _ _) = no-value e
+unsettle (before q _ e) = (q, e)
+
+-- one that is met, and nothing more ahead
+meet : {A : Type 0} {gives : A → Type 0} {g f : Given} (x : A) (xs : List A) → isGiven g ≡ false → xs ≡ [] → gives x → Settles gives g (x ∷ xs) f
+meet x xs g e h = ahead x (none-given _ g) (ap (λ ys. x ∷ ys) e) h
+
+settle-end : {A : Type 0} {gives : A → Type 0} (g : Given) → Settles gives g [] g
+settle-end Not = nowhere refl refl refl
+settle-end (Value n) = before refl refl refl
+
+kept-end : (h : Head) (m : Given) → MarksKept m (h .condition) (h .needs) (goalOf h)
+kept-end h Not = tt
+kept-end h (Value c) = (refl, refl)
+
+flag-end : (b : Bool) → count b + 0 ≤ 1
+flag-end true = omega arith
+flag-end false = omega arith
+
+flag-met : (b : Bool) (n : ℕ) → b ≡ false → count true + n ≤ 1 → count b + suc n ≤ 1
+flag-met true n e l = absurd (false≢true (sym e))
+flag-met false n e l = omega arith
+
+-- the formula is kept to the end
+kept-formula : (c : ℕ) (x : Cond) (condition : Acceptance) (needs : List ℕ) (f : Goal) → StandardAs (formula c x) condition needs
+    → (condition ≡ f .condition) × (needs ≡ f .needs) → StandardAs (formula c x) (f .condition) (f .needs)
+kept-formula c x condition needs f m k =
+    subst (λ (n : List ℕ). StandardAs (formula c x) (f .condition) n) (k .1) (subst (λ (a : Acceptance). StandardAs (formula c x) a needs) (k .0) m)
+
+ahead-end : (h : Head) → Ahead h [] (goalOf h)
+unfolding given
+ahead-end h =
+    record {
+      fit = eachNone;
+      states-settle = settle-end (h .states);
+      start-settles = settle-end (h .start);
+      props-settle = settle-end (h .props);
+      marks-settle = settle-end (h .marks);
+      marks-kept = kept-end h (h .marks);
+      acc-name-once = flag-end (h .hint);
+      tool-once = flag-end (h .tool);
+      name-once = flag-end (h .name)
+    }
+
+-- nothing was known of the formula where none was given
+no-marks : (m : Given) (condition : Acceptance) (needs : List ℕ) (f : Goal) → isGiven m ≡ false → MarksKept m condition needs f
+no-marks Not condition needs f e = tt
+no-marks (Value c) condition needs f e = absurd (false≢true (sym e))
+
+-- one item in front
+ahead-more : {h h' : Head} {i : Item} {is : List Item} (f : Goal) → Takes h i h' → Ahead h' is f → Ahead h (i ∷ is) f
+unfolding given
+ahead-more {h = h} {is = is} f (takesStates n g p a) r =
+    let u = unsettle (r .states-settle) in
+    record {
+      fit = eachMore tt (r .fit);
+      states-settle = meet n (given ofStates is) g (u .1) (sym (u .0));
+      start-settles = r .start-settles;
+      props-settle = r .props-settle;
+      marks-settle = r .marks-settle;
+      marks-kept = r .marks-kept;
+      acc-name-once = r .acc-name-once;
+      tool-once = r .tool-once;
+      name-once = r .name-once
+    }
+ahead-more {h = h} {is = is} f (takesStart s g a) r =
+    let u = unsettle (r .start-settles) in
+    record {
+      fit = eachMore tt (r .fit);
+      states-settle = r .states-settle;
+      start-settles = meet (one s) (given ofStart is) g (u .1) (sym (u .0));
+      props-settle = r .props-settle;
+      marks-settle = r .marks-settle;
+      marks-kept = r .marks-kept;
+      acc-name-once = r .acc-name-once;
+      tool-once = r .tool-once;
+      name-once = r .name-once
+    }
+ahead-more {h = h} {is = is} f (takesProps k ns g l d) r =
+    let u = unsettle (r .props-settle) in
+    record {
+      fit = eachMore {x = props k ns} (l, d) (r .fit);
+      states-settle = r .states-settle;
+      start-settles = r .start-settles;
+      props-settle = meet ns (given ofProps is) g (u .1) (sym (u .0) ∙ ap Value (sym l));
+      marks-settle = r .marks-settle;
+      marks-kept = r .marks-kept;
+      acc-name-once = r .acc-name-once;
+      tool-once = r .tool-once;
+      name-once = r .name-once
+    }
+ahead-more {h = h} {is = is} f (takesAcceptance c x condition needs g m) r =
+    let u = unsettle (r .marks-settle) in
+    record {
+      fit = eachMore tt (r .fit);
+      states-settle = r .states-settle;
+      start-settles = r .start-settles;
+      props-settle = r .props-settle;
+      marks-settle = meet (formula c x) (given ofAcceptance is) g (u .1) (sym (u .0), kept-formula c x condition needs f m (r .marks-kept));
+      marks-kept = no-marks (h .marks) (h .condition) (h .needs) f g;
+      acc-name-once = r .acc-name-once;
+      tool-once = r .tool-once;
+      name-once = r .name-once
+    }
+ahead-more {h = h} {is = is} f (takesAccName w hs g) r =
+    record {
+      fit = eachMore tt (r .fit);
+      states-settle = r .states-settle;
+      start-settles = r .start-settles;
+      props-settle = r .props-settle;
+      marks-settle = r .marks-settle;
+      marks-kept = r .marks-kept;
+      acc-name-once = flag-met (h .hint) (length (given ofAccName is)) g (r .acc-name-once);
+      tool-once = r .tool-once;
+      name-once = r .name-once
+    }
+ahead-more {h = h} {is = is} f (takesTool bs second g) r =
+    record {
+      fit = eachMore tt (r .fit);
+      states-settle = r .states-settle;
+      start-settles = r .start-settles;
+      props-settle = r .props-settle;
+      marks-settle = r .marks-settle;
+      marks-kept = r .marks-kept;
+      acc-name-once = r .acc-name-once;
+      tool-once = flag-met (h .tool) (length (given ofTool is)) g (r .tool-once);
+      name-once = r .name-once
+    }
+ahead-more {h = h} {is = is} f (takesName bs g) r =
+    record {
+      fit = eachMore tt (r .fit);
+      states-settle = r .states-settle;
+      start-settles = r .start-settles;
+      props-settle = r .props-settle;
+      marks-settle = r .marks-settle;
+      marks-kept = r .marks-kept;
+      acc-name-once = r .acc-name-once;
+      tool-once = r .tool-once;
+      name-once = flag-met (h .name) (length (given ofName is)) g (r .name-once)
+    }
+ahead-more f (takesProperties ws) r =
+    record {
+      fit = eachMore tt (r .fit);
+      states-settle = r .states-settle;
+      start-settles = r .start-settles;
+      props-settle = r .props-settle;
+      marks-settle = r .marks-settle;
+      marks-kept = r .marks-kept;
+      acc-name-once = r .acc-name-once;
+      tool-once = r .tool-once;
+      name-once = r .name-once
+    }
+ahead-more f (takesLower es) r =
+    record {
+      fit = eachMore tt (r .fit);
+      states-settle = r .states-settle;
+      start-settles = r .start-settles;
+      props-settle = r .props-settle;
+      marks-settle = r .marks-settle;
+      marks-kept = r .marks-kept;
+      acc-name-once = r .acc-name-once;
+      tool-once = r .tool-once;
+      name-once = r .name-once
+    }
+
+-- items that fit one behind the other give all that is asked of them
+pub takes-ahead : (h h' : Head) (is : List Item) → TakesAll h is h' → Ahead h is (goalOf h')
+takes-ahead h h' _ (takesNone e) = subst (λ (x : Head). Ahead h [] (goalOf x)) e (ahead-end h)
+takes-ahead h h' _ (takesMore t ts) = ahead-more (goalOf h') t (takes-ahead _ h' _ ts)
+
+-- and the numbers agree
+agree-states : (g f : Given) (n : ℕ) → 0 < n → notAbove n f ≡ false → Agree (Value n) f
+agree-states g Not n p a = p
+agree-states g (Value s) n p a = leb-false n s a
+
+agree-start : (g : Given) (s : ℕ) → notBelow s g ≡ false → Agree g (Value s)
+agree-start Not s a = tt
+agree-start (Value n) s a = leb-false n s a
+
+agree-one : {h h' : Head} {i : Item} → Takes h i h' → Agree (h .states) (h .start) → Agree (h' .states) (h' .start)
+agree-one {h = h} (takesStates n g p a) r = agree-states (h .states) (h .start) n p a
+agree-one {h = h} (takesStart s g a) r = agree-start (h .states) s a
+agree-one (takesProps k ns g l d) r = r
+agree-one (takesAcceptance c x condition needs g m) r = r
+agree-one (takesAccName w hs g) r = r
+agree-one (takesTool bs second g) r = r
+agree-one (takesName bs g) r = r
+agree-one (takesProperties ws) r = r
+agree-one (takesLower es) r = r
+
+pub takes-agree : (h h' : Head) (is : List Item) → TakesAll h is h' → Agree (h .states) (h .start) → Agree (h' .states) (h' .start)
+takes-agree h h' _ (takesNone e) r = subst (λ (x : Head). Agree (x .states) (x .start)) e r
+takes-agree h h' _ (takesMore t ts) r = takes-agree _ h' _ ts (agree-one t r)

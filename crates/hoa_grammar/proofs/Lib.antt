@@ -16,3 +16,5 @@ pub mod RowSound
 pub mod RowWalks
 -- Ahead: items fit one behind the other exactly if all of them do
 pub mod Ahead
+-- RowsAhead: rows fit one behind the other exactly if they are rows of the subset
+pub mod RowsAhead

@@ -14,13 +14,16 @@ use Rattle.hoa_tokens.specs.declared.Word.{Word}
 use Rattle.hoa_formula.specs.Cond.{Cond}
 use Rattle.hoa_step.specs.declared.Given.{Given}
 use Rattle.hoa_step.specs.declared.Given.the-variants.{Not, Value}
-use Rattle.hoa_step.specs.Given.{isGiven, notBelow, notAbove}
+use Rattle.hoa_step.specs.Given.{isGiven, givenOr, notBelow, notAbove}
+use Rattle.job_text.specs.Job.{mostJobStates}
+use Rattle.hoa_formula.specs.Standard.{mostPairs}
 use Rattle.hoa_head.specs.declared.Head.{Head}
-use Rattle.hoa_head.specs.Head.{blank, withStates, withStart, withProps, withMarks, withAccName, withTool, withName}
+use Rattle.hoa_head.specs.Head.{mostProps, mostMarks, blank, withStates, withStart, withProps, withMarks, withAccName, withTool, withName}
 use Rattle.hoa_grammar.specs.Doc.{Conj, one, more, Hint, Extra, Item, states, start, props, alias, acceptance, accName, tool, name, properties, capital, lower}
-use Rattle.hoa_grammar.specs.Subset.{Each, eachNone, eachMore, Differ, given, put, ofStates, ofStart, ofProps, ofAcceptance, ofAccName, ofTool, ofName, Formula, ItemFits, StandardAs}
-use Rattle.hoa_grammar.proofs.Takes.{formula, Takes, takesStates, takesStart, takesProps, takesAcceptance, takesAccName, takesTool, takesName, takesProperties, takesLower,
+use Rattle.hoa_grammar.specs.Subset.{Each, eachNone, eachMore, Differ, given, put, ofStates, ofStart, ofProps, ofAcceptance, ofAccName, ofTool, ofName, Formula, ItemFits, StandardAs, pairsIn}
+use Rattle.hoa_grammar.proofs.Takes.{formula, Takes, takesStates, takesStart, takesProps, takesAcceptance, takesAccName, takesTool, takesName, takesProperties, takesLower, ItemLimit,
   TakesAll, takesNone, takesMore}
+use Rattle.hoa_grammar.proofs.Heads.{AllLimits}
 
 -- what the header gives in the end
 pub record Goal : Type 0 where
@@ -152,14 +155,28 @@ kept-given (nowhere n _ _) e = absurd (false≢true (sym (not-given _ n) ∙ e))
 kept-given (ahead x n _ _) e = absurd (false≢true (sym (not-given _ n) ∙ e))
 kept-given (before q _ _) e = q
 
+-- the limits of what the header gives
+pub record GoalLimited (f : Goal) : Type 0 where
+  pub few-states : givenOr 0 (f .states) ≤ mostJobStates
+  pub few-start : givenOr 0 (f .start) < mostJobStates
+  pub few-props : givenOr 0 (f .props) ≤ mostProps
+  pub few-marks : givenOr 0 (f .marks) ≤ mostMarks
+  pub few-pairs : pairsIn (f .condition) ≤ mostPairs
+
 -- where the items lead
 pub record Taken (h : Head) (is : List Item) (f : Goal) : Type 0 where
   pub last : Head
   pub takes : TakesAll h is last
   pub reached : goalOf last ≡ f
+  pub limits : GoalLimited f → AllLimits takes
 
-taken-more : {h h' : Head} {i : Item} {is : List Item} {f : Goal} → Takes h i h' → Taken h' is f → Taken h (i ∷ is) f
-taken-more t r = record { last = r .last; takes = takesMore t (r .takes); reached = r .reached }
+taken-more : {h h' : Head} {i : Item} {is : List Item} {f : Goal} (t : Takes h i h') → (GoalLimited f → ItemLimit t) → Taken h' is f → Taken h (i ∷ is) f
+unfolding AllLimits
+taken-more t l r = record { last = r .last; takes = takesMore t (r .takes); reached = r .reached; limits = λ g. (l g, r .limits g) }
+
+-- a number that is given in the end
+given-is : (g : Given) (n : ℕ) → g ≡ Value n → n ≡ givenOr 0 g
+given-is g n e = sym (ap (givenOr 0) e)
 
 -- nothing is ahead any more
 settled : {A : Type 0} {gives : A → Type 0} {g f : Given} → Settles gives g [] f → g ≡ f
@@ -221,13 +238,14 @@ pass-lower a =
 
 -- what all items ahead must give makes them fit one behind the other
 pub ahead-takes : (is : List Item) (h : Head) (f : Goal) → Agree (f .states) (f .start) → isGiven (f .marks) ≡ true → Ahead h is f → Taken h is f
-unfolding given
-ahead-takes [] h f agree g a = record { last = h; takes = takesNone refl; reached = none-ahead h f a g }
+unfolding given ItemLimit AllLimits
+ahead-takes [] h f agree g a = record { last = h; takes = takesNone refl; reached = none-ahead h f a g; limits = λ _. tt }
 ahead-takes (states n ∷ is) h f agree g a =
     let m = met n (given ofStates is) (a .states-settle) in
     taken-more
     (takesStates n (not-given _ (m .new)) (some-states (f .states) (f .start) n (m .gives-it) agree)
     (above-start (h .start) (f .start) (f .states) n (m .gives-it) (kept-given (a .start-settles)) agree))
+    (λ x. omega (arith, x .few-states, given-is (f .states) n (m .gives-it)))
     (ahead-takes is (withStates n h) f agree g
     (record {
       fit = tail-fit (a .fit);
@@ -244,6 +262,7 @@ ahead-takes (start (one s) ∷ is) h f agree g a =
     let m = met (one s) (given ofStart is) (a .start-settles) in
     taken-more
     (takesStart s (not-given _ (m .new)) (below-states (h .states) (f .start) (f .states) s (m .gives-it) (kept-given (a .states-settle)) agree))
+    (λ x. omega (arith, x .few-start, given-is (f .start) s (m .gives-it)))
     (ahead-takes is (withStart s h) f agree g
     (record {
       fit = tail-fit (a .fit);
@@ -262,6 +281,7 @@ ahead-takes (props k ns ∷ is) h f agree g a =
     let x = head-fit (a .fit) in
     taken-more
     (takesProps k ns (not-given _ (m .new)) (x .0) (x .1))
+    (λ y. omega (arith, y .few-props, given-is (f .props) (length ns) (m .gives-it), x .0))
     (ahead-takes is (withProps k h) f agree g
     (record {
       fit = tail-fit (a .fit);
@@ -279,6 +299,7 @@ ahead-takes (acceptance c x ∷ is) h f agree g a =
     let m = met (formula c x) (given ofAcceptance is) (a .marks-settle) in
     taken-more
     (takesAcceptance c x (f .condition) (f .needs) (not-given _ (m .new)) (m .gives-it .1))
+    (λ y. (omega (arith, y .few-marks, given-is (f .marks) c (m .gives-it .0)), y .few-pairs))
     (ahead-takes is (withMarks c (f .condition) (f .needs) h) f agree g
     (record {
       fit = tail-fit (a .fit);
@@ -294,6 +315,7 @@ ahead-takes (acceptance c x ∷ is) h f agree g a =
 ahead-takes (accName w hs ∷ is) h f agree g a =
     taken-more
     (takesAccName w hs (flag-new (h .hint) (length (given ofAccName is)) (a .acc-name-once)))
+    (λ _. tt)
     (ahead-takes is (withAccName h) f agree g
     (record {
       fit = tail-fit (a .fit);
@@ -309,6 +331,7 @@ ahead-takes (accName w hs ∷ is) h f agree g a =
 ahead-takes (tool bs second ∷ is) h f agree g a =
     taken-more
     (takesTool bs second (flag-new (h .tool) (length (given ofTool is)) (a .tool-once)))
+    (λ _. tt)
     (ahead-takes is (withTool h) f agree g
     (record {
       fit = tail-fit (a .fit);
@@ -324,6 +347,7 @@ ahead-takes (tool bs second ∷ is) h f agree g a =
 ahead-takes (name bs ∷ is) h f agree g a =
     taken-more
     (takesName bs (flag-new (h .name) (length (given ofName is)) (a .name-once)))
+    (λ _. tt)
     (ahead-takes is (withName h) f agree g
     (record {
       fit = tail-fit (a .fit);
@@ -336,9 +360,9 @@ ahead-takes (name bs ∷ is) h f agree g a =
       tool-once = a .tool-once;
       name-once = flag-set (h .name) (length (given ofName is)) (a .name-once)
     }))
-ahead-takes (properties ws ∷ is) h f agree g a = taken-more (takesProperties ws) (ahead-takes is h f agree g (pass a))
+ahead-takes (properties ws ∷ is) h f agree g a = taken-more (takesProperties ws) (λ _. tt) (ahead-takes is h f agree g (pass a))
 ahead-takes (capital es ∷ is) h f agree g a = absurd (head-fit (a .fit))
-ahead-takes (lower es ∷ is) h f agree g a = taken-more (takesLower es) (ahead-takes is h f agree g (pass-lower a))
+ahead-takes (lower es ∷ is) h f agree g a = taken-more (takesLower es) (λ _. tt) (ahead-takes is h f agree g (pass-lower a))
 
 -- ---- from one behind the other to all
 
@@ -541,3 +565,27 @@ agree-one (takesLower es) r = r
 pub takes-agree : (h h' : Head) (is : List Item) → TakesAll h is h' → Agree (h .states) (h .start) → Agree (h' .states) (h' .start)
 takes-agree h h' _ (takesNone e) r = subst (λ (x : Head). Agree (x .states) (x .start)) e r
 takes-agree h h' _ (takesMore t ts) r = takes-agree _ h' _ ts (agree-one t r)
+
+-- ---- the limits of the end
+
+limited-one : {h h' : Head} {i : Item} (t : Takes h i h') → ItemLimit t → GoalLimited (goalOf h) → GoalLimited (goalOf h')
+unfolding ItemLimit
+limited-one (takesStates n g p a) l r =
+    record { few-states = l; few-start = r .few-start; few-props = r .few-props; few-marks = r .few-marks; few-pairs = r .few-pairs }
+limited-one (takesStart s g a) l r =
+    record { few-states = r .few-states; few-start = l; few-props = r .few-props; few-marks = r .few-marks; few-pairs = r .few-pairs }
+limited-one (takesProps k ns g e d) l r =
+    record { few-states = r .few-states; few-start = r .few-start; few-props = l; few-marks = r .few-marks; few-pairs = r .few-pairs }
+limited-one (takesAcceptance c x condition needs g m) l r =
+    record { few-states = r .few-states; few-start = r .few-start; few-props = r .few-props; few-marks = l .0; few-pairs = l .1 }
+limited-one (takesAccName w hs g) l r = record { few-states = r .few-states; few-start = r .few-start; few-props = r .few-props; few-marks = r .few-marks; few-pairs = r .few-pairs }
+limited-one (takesTool bs second g) l r = record { few-states = r .few-states; few-start = r .few-start; few-props = r .few-props; few-marks = r .few-marks; few-pairs = r .few-pairs }
+limited-one (takesName bs g) l r = record { few-states = r .few-states; few-start = r .few-start; few-props = r .few-props; few-marks = r .few-marks; few-pairs = r .few-pairs }
+limited-one (takesProperties ws) l r = r
+limited-one (takesLower es) l r = r
+
+-- items that are held to the limits give a header within them
+pub takes-limited : (h h' : Head) (is : List Item) (fs : TakesAll h is h') → AllLimits fs → GoalLimited (goalOf h) → GoalLimited (goalOf h')
+unfolding AllLimits
+takes-limited h h' _ (takesNone e) l r = subst (λ (x : Head). GoalLimited (goalOf x)) e r
+takes-limited h h' _ (takesMore t ts) l r = takes-limited _ h' _ ts (l .1) (limited-one t (l .0) r)

@@ -20,7 +20,7 @@ use Rattle.hoa_tokens.specs.Token.{Token, int, word, header, str, aname, sign, 
 use Rattle.job_text.specs.Job.{mostJobStates}
 use Rattle.table.specs.declared.Acceptance.{Acceptance}
 use Rattle.hoa_formula.specs.Cond.{Cond, condText}
-use Rattle.hoa_formula.specs.Standard.{FormulaMeaning, standard, short, stdPairs, mostPairs}
+use Rattle.hoa_formula.specs.Standard.{FormulaMeaning, standard, short, mostPairs}
 use Rattle.hoa_formula.specs.Formulas as formula
 use Rattle.hoa_formula.specs.Formulas.{FormulaState, formulaBegin, formulaStep, FormulaStep}
 use Rattle.hoa_step.specs.Machine.{Step, go, done, wrong, wantsInt, wantsText}
@@ -34,7 +34,7 @@ use Rattle.hoa_head.specs.Heading.{HeadState, opening, version, items, statesIn
   onMarks, onFormula, behindFormula, onAccName, onToolMore, onHints, onOpening, openingHeader, onVersion, versionWord}
 use Rattle.hoa_grammar.specs.Doc as doc
 use Rattle.hoa_grammar.specs.Doc.{Conj, Hint, hintWord, hintInt, Extra, extraWord, extraInt, extraText, Item, itemText, itemsText, hintsText, extrasText, wordsText, stringsText, perhapsText}
-use Rattle.hoa_grammar.specs.Subset.{Each, eachNone, eachMore, Differ, differNone, differMore, StandardAs}
+use Rattle.hoa_grammar.specs.Subset.{Each, eachNone, eachMore, Differ, differNone, differMore, StandardAs, pairsIn}
 use Rattle.hoa_grammar.specs.Walk.{Walk, going, over, faulty, walkBy, walk}
 use Rattle.hoa_grammar.proofs.Takes.{Takes, takesStates, takesStart, takesProps, takesAcceptance, takesAccName, takesTool, takesName, takesProperties, takesLower, ItemLimit,
   TakesAll, takesNone, takesMore}
@@ -271,7 +271,7 @@ pub record FormulaRead (c : ℕ) (ts rest : List Token) (condition : Acceptance)
   pub cond : Cond
   pub text : ts ≡ condText cond rest
   pub means : StandardAs (takes.formula c cond) condition needs
-  pub few : stdPairs (means .std) ≤ mostPairs
+  pub few : pairsIn condition ≤ mostPairs
 
 -- what the crate `hoa_formula` knows: tokens that lead to the end of a formula are one
 abbrev pub FormulaSound : Type 0

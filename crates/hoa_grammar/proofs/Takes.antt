@@ -8,13 +8,13 @@ use lib.ListN.{length}
 use Rattle.table.specs.declared.Acceptance.{Acceptance}
 use Rattle.hoa_tokens.specs.declared.Word.{Word}
 use Rattle.hoa_formula.specs.Cond.{Cond}
-use Rattle.hoa_formula.specs.Standard.{stdPairs, mostPairs}
+use Rattle.hoa_formula.specs.Standard.{mostPairs}
 use Rattle.job_text.specs.Job.{mostJobStates}
 use Rattle.hoa_step.specs.Given.{isGiven, notBelow, notAbove}
 use Rattle.hoa_head.specs.declared.Head.{Head}
 use Rattle.hoa_head.specs.Head.{mostProps, mostMarks, withStates, withStart, withProps, withMarks, withAccName, withTool, withName}
 use Rattle.hoa_grammar.specs.Doc.{Conj, Hint, Extra, Item, states, start, props, alias, acceptance, accName, tool, name, properties, capital, lower}
-use Rattle.hoa_grammar.specs.Subset.{Differ, Formula, StandardAs}
+use Rattle.hoa_grammar.specs.Subset.{Differ, Formula, StandardAs, pairsIn}
 
 -- the formula with c marks
 abbrev pub formula : ℕ → Cond → Formula
@@ -43,7 +43,7 @@ unfoldable pub ItemLimit : {h h' : Head} {i : Item} → Takes h i h' → Type 0
 ItemLimit (takesStates n _ _ _) = n ≤ mostJobStates
 ItemLimit (takesStart s _ _) = s < mostJobStates
 ItemLimit (takesProps a ns _ _ _) = a ≤ mostProps
-ItemLimit (takesAcceptance c x condition needs _ means) = (c ≤ mostMarks) × (stdPairs (means .std) ≤ mostPairs)
+ItemLimit (takesAcceptance c x condition needs _ means) = (c ≤ mostMarks) × (pairsIn condition ≤ mostPairs)
 ItemLimit (takesAccName w hs _) = Unit {0}
 ItemLimit (takesTool bs second _) = Unit {0}
 ItemLimit (takesName bs _) = Unit {0}

@@ -5,13 +5,14 @@ use mathlib.Core.Path.{_≡_}
 use Prim.Native.Nat.{ℕ, _≤_, _<_}
 use lib.ListN.{length}
 use Rattle.table.specs.declared.Acceptance.{Acceptance}
+use Rattle.table.specs.declared.Acceptance.the-variants.{Buchi, Streett, Rabin}
 use Rattle.job_text.specs.Value.{Edge}
 use Rattle.job_text.specs.Job.{Job, mostJobStates, mostJobEdges}
 use Rattle.hoa_tokens.specs.declared.Word.the-variants as word-is
 use Rattle.hoa_tokens.specs.Token.{Token}
 use Rattle.hoa_label.specs.Label.{Label, labelFits, labelDepth, Satisfiable, mostLevels}
 use Rattle.hoa_formula.specs.Cond.{Cond, condText}
-use Rattle.hoa_formula.specs.Standard.{standard, Std, stdText, IsStd, stdMeaning, stdPairs, mostPairs}
+use Rattle.hoa_formula.specs.Standard.{standard, Std, stdText, IsStd, stdMeaning, mostPairs}
 use Rattle.hoa_head.specs.Head.{mostProps, mostMarks}
 use Rattle.hoa_rows.specs.Sig.{withMark}
 use Rattle.hoa_rows.specs.Sorted.{sorted}
@@ -256,6 +257,12 @@ pub record Says (d : Doc) (j : Job) : Type 0 where
 -- ---- the limits: "n at most 256, a at most 6, c at most 32, at most 8 Rabin pairs, at most 512 edges with a satisfiable label"; brackets of a label nest at
 -- most 256 deep
 
+-- how many Rabin pairs a condition has
+abbrev pub pairsIn : Acceptance → ℕ
+pairsIn (Buchi k) = 0
+pairsIn (Streett p) = 0
+pairsIn (Rabin p) = p
+
 abbrev pub LabelLimit : Option Label → Type 0
 LabelLimit none = Unit {0}
 LabelLimit (some l) = labelDepth l ≤ mostLevels
@@ -264,6 +271,6 @@ pub record Limited (d : Doc) (j : Job) (says : Says d j) : Type 0 where
   pub few-states : j .states ≤ mostJobStates
   pub few-props : propsOf (given ofProps (d .items)) ≤ mostProps
   pub few-marks : says .formula .marks ≤ mostMarks
-  pub few-pairs : stdPairs (says .means .std) ≤ mostPairs
+  pub few-pairs : pairsIn (j .condition) ≤ mostPairs
   pub few-edges : length (says .all) ≤ mostJobEdges
   pub flat : Each (λ r. Each (λ e. LabelLimit (e .label)) (r .edges)) (d .rows)

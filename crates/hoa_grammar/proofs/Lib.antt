@@ -18,3 +18,5 @@ pub mod RowWalks
 pub mod Ahead
 -- RowsAhead: rows fit one behind the other exactly if they are rows of the subset
 pub mod RowsAhead
+-- Runs: a run over placed tokens is a walk over tokens; nothing follows the text's end
+pub mod Runs

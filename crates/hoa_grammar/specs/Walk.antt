@@ -2,6 +2,7 @@
 use mathlib.Core.List.{List, [], _∷_}
 use Prim.Native.Nat.{ℕ}
 use Rattle.hoa_tokens.specs.Token.{Token}
+use Rattle.hoa_tokens.specs.Stream.{Placed}
 use Rattle.hoa_step.specs.Machine.{Step, go, done, wrong}
 
 pub data Walk (S D : Type 0) : Type 0 where
@@ -20,3 +21,8 @@ walkBy (wrong n) ts more = faulty n ts
 unfoldable pub walk : {S D : Type 0} → (S → Token → Step S D) → List Token → S → Walk S D
 walk step [] s = going s
 walk step (t ∷ ts) s = walkBy (step s t) ts (λ u. walk step ts u)
+
+-- the tokens, their places set aside
+unfoldable pub tokensOf : List Placed → List Token
+tokensOf [] = []
+tokensOf (p ∷ ps) = p .token ∷ tokensOf ps

@@ -20,3 +20,7 @@ pub mod Ahead
 pub mod RowsAhead
 -- Runs: a run over placed tokens is a walk over tokens; nothing follows the text's end
 pub mod Runs
+-- Crowd: numbers that differ are no more than they can be
+pub mod Crowd
+-- Accepted: what is read is a text of the subset
+pub mod Accepted

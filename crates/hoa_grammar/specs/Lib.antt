@@ -4,3 +4,5 @@ pub mod Doc
 pub mod Subset
 -- Walk: tokens from the left, their places set aside
 pub mod Walk
+-- Exact: which texts are read, and as what
+pub mod Exact

@@ -24,3 +24,5 @@ pub mod Runs
 pub mod Crowd
 -- Accepted: what is read is a text of the subset
 pub mod Accepted
+-- Complete: every text of the subset within the limits is read
+pub mod Complete

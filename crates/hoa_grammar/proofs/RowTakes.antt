@@ -3,7 +3,7 @@
 use mathlib.Core.Bool.{false}
 use mathlib.Core.List.{List, [], _∷_}
 use mathlib.Core.Option.{Option, some, none}
-use mathlib.Core.Path.{_≡_}
+use mathlib.Core.Path.{_≡_, sym, ap}
 use Prim.Native.Nat.{ℕ, _≤_, _<_}
 use lib.ListN.{length}
 use Rattle.job_text.specs.Job.{mostJobStates, mostJobEdges}
@@ -58,3 +58,8 @@ module _ (l : Limits) where
   unfoldable pub RowsLimit : {b b' : Rows} {rs : List Row} → TakesRows b rs b' → Type 0
   RowsLimit (takesNoRow e) = Unit {0}
   RowsLimit (takesRowMore f fs) = RowLimit f × RowsLimit fs
+
+  -- edges leave the rows' numbers as they are
+  pub edges-seen : (b b' : Rows) (es : List EdgeTree) → TakesEdges b es b' → b' .seen ≡ b .seen
+  edges-seen b b' _ (takesNoEdge e) = ap (λ (x : Rows). x .seen) (sym e)
+  edges-seen b b' _ (takesEdgeMore (takesEdge lab to sig _ _ _) fs) = edges-seen _ b' _ fs

@@ -6,3 +6,5 @@ pub mod Standard
 pub mod Machines
 -- Formulas: admission, one token at a time
 pub mod Formulas
+-- inner: what only the reader's own contracts need
+pub mod inner

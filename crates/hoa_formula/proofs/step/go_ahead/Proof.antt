@@ -1,0 +1,37 @@
+use native.Mathlib.Omega.{arith}
+use borrow.Author.Needs.{needs}
+use Rattle.hoa_formula.proofs.step.go_ahead.Statement.{statement}
+use Rattle.hoa_formula.proofs.step.go_ahead.Tie as tie
+use Rattle.hoa_formula.proofs.step.go_ahead.Reads as reads
+use Rattle.hoa_formula.proofs.step.go_ahead.Lts as lts
+use Rattle.hoa_formula.proofs.machine.lost_ahead.Reads as lost-ahead-reads
+use Rattle.hoa_formula.proofs.step.opens_pair.Reads as opens-pair-reads
+
+-- src/step.rt:80:8
+lost-ahead-requires : tie.Need-lost-ahead-requires
+lost-ahead-requires c κs = search needs
+
+-- src/step.rt:81:9
+returns : tie.Need-returns
+returns c = search needs
+
+-- src/step.rt:84:12
+opens-pair-requires : tie.Need-opens-pair-requires
+opens-pair-requires c κs = search needs
+
+-- src/step.rt:85:13
+returns-2 : tie.Need-returns-2
+returns-2 c = search needs
+
+-- src/step.rt:77:1
+returns-3 : tie.Need-returns-3
+returns-3 c = search needs
+
+-- src/step.rt:77:1
+returns-4 : tie.Need-returns-4
+returns-4 c = search needs
+
+pub go-ahead-spec : {M : Type 1} → statement M
+go-ahead-spec =
+    tie.close
+    (tie.spec lost-ahead-requires returns opens-pair-requires returns-2 returns-3 returns-4)

@@ -1,3 +1,6 @@
+use native.Mathlib.Numerals.{add-one}
+use mathlib.Core.Path.{_≡_, refl, sym, ap, _∙_}
+use Rattle.hoa_formula.proofs.Turns.{others-refusal, others-operand, others-named, others-bracket, others-number, others-after, others-pair, ahead-lost, ahead-many, ahead-other, ahead-few, named-full, named-lost, named-goes, number-above, number-other, number-right, ends-open, closes-open}
 use native.Mathlib.Omega.{arith}
 use borrow.Author.Needs.{needs}
 use Rattle.hoa_formula.proofs.step.on_operand.Statement.{statement}
@@ -19,11 +22,11 @@ enum-told c = search needs
 
 -- src/step.rt:132:33
 add-go-ahead : tie.Need-add-go-ahead
-add-go-ahead c = search needs
+add-go-ahead c = let e = c .before .before .pre .2 (c .enum-told .given .1) in omega arith
 
 -- src/step.rt:132:51
 opened-requires : tie.Need-opened-requires
-opened-requires c κs = search needs
+opened-requires c κs = (c .before .before .pre .1, c .before .before .pre .2 (c .enum-told .given .1))
 
 -- src/step.rt:132:24
 go-ahead-requires : tie.Need-go-ahead-requires
@@ -75,27 +78,27 @@ refusal-requires c κs = search needs
 
 -- src/step.rt:127:1
 returns : tie.Need-returns
-returns c = search needs
+returns c = rw (c .before .before .enum-told .given .1, ← c .before .opened .ensures, ← add-one (c .before .before .before .before .args .depth)) (c .go-ahead .ensures)
 
 -- src/step.rt:127:1
 returns-2 : tie.Need-returns-2
-returns-2 c = search needs
+returns-2 c = rw (c .before .before .enum-told2 .given .1, ← c .before .begun-inf .ensures) (c .go-named .ensures)
 
 -- src/step.rt:127:1
 returns-3 : tie.Need-returns-3
-returns-3 c = search needs
+returns-3 c = rw (c .before .before .enum-told3 .given .1, ← c .before .begun-fin .ensures) (c .go-named2 .ensures)
 
 -- src/step.rt:127:1
 returns-4 : tie.Need-returns-4
-returns-4 c = search needs
+returns-4 c = rw (c .before .before .before .p .given .1, ← c .before .begun-truth .ensures) (c .go-past .ensures)
 
 -- src/step.rt:127:1
 returns-5 : tie.Need-returns-5
-returns-5 c = search needs
+returns-5 c = rw (c .enum-told4 .given .1)
 
 -- src/step.rt:127:1
 returns-6 : tie.Need-returns-6
-returns-6 c = search needs
+returns-6 c = let a = c .before .before .args in rw (c .refusal .ensures) (others-operand (a .c) (a .depth) (a .atoms) (a .a) (a .p) (a .pairs) (c .before .match .keys6))
 
 pub on-operand-spec : {M : Type 1} → statement M
 on-operand-spec =

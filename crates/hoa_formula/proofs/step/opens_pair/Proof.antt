@@ -1,3 +1,5 @@
+use mathlib.Core.Path.{_≡_, refl, sym, ap, _∙_}
+use Rattle.hoa_formula.proofs.Turns.{others-refusal, others-operand, others-named, others-bracket, others-number, others-after, others-pair, ahead-lost, ahead-many, ahead-other, ahead-few, named-full, named-lost, named-goes, number-above, number-other, number-right, ends-open, closes-open}
 use native.Mathlib.Omega.{arith}
 use borrow.Author.Needs.{needs}
 use Rattle.hoa_formula.proofs.step.opens_pair.Statement.{statement}
@@ -31,7 +33,7 @@ returns-3 c = search needs
 
 -- src/step.rt:61:1
 returns-4 : tie.Need-returns-4
-returns-4 c = search needs
+returns-4 c = others-pair (c .before .args .a) (c .match .keys4)
 
 pub opens-pair-spec : {M : Type 1} → statement M
 opens-pair-spec =

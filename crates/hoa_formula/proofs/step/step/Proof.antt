@@ -1,3 +1,5 @@
+use mathlib.Core.Path.{_≡_, refl, sym, ap, _∙_}
+use Rattle.hoa_formula.proofs.Turns.{others-refusal, others-operand, others-named, others-bracket, others-number, others-after, others-pair, ahead-lost, ahead-many, ahead-other, ahead-few, named-full, named-lost, named-goes, number-above, number-other, number-right, ends-open, closes-open}
 use native.Mathlib.Omega.{arith}
 use borrow.Author.Needs.{needs}
 use Rattle.hoa_formula.proofs.step.step.Statement.{statement}
@@ -16,7 +18,7 @@ enum-known-stage c = search needs
 
 -- src/step.rt:233:30
 on-operand-requires : tie.Need-on-operand-requires
-on-operand-requires c κs = search needs
+on-operand-requires c κs = let q = c .before .before .before .pre in (q .0 .depth, rw (c .before .stage .given .1) at (q .0 .stage), q .1)
 
 -- src/step.rt:234:22
 enum-known-stage-2 : tie.Need-enum-known-stage-2
@@ -52,23 +54,23 @@ on-after-requires c κs = search needs
 
 -- src/step.rt:225:1
 returns : tie.Need-returns
-returns c = search needs
+returns c = rw (c .before .before .stage .given .1) (c .on-operand .ensures)
 
 -- src/step.rt:225:1
 returns-2 : tie.Need-returns-2
-returns-2 c = search needs
+returns-2 c = rw (c .before .before .stage2 .given .1) (c .on-named .ensures)
 
 -- src/step.rt:225:1
 returns-3 : tie.Need-returns-3
-returns-3 c = search needs
+returns-3 c = rw (c .before .before .stage3 .given .1) (c .on-bracket .ensures)
 
 -- src/step.rt:225:1
 returns-4 : tie.Need-returns-4
-returns-4 c = search needs
+returns-4 c = rw (c .before .before .stage4 .given .1) (c .on-number .ensures)
 
 -- src/step.rt:225:1
 returns-5 : tie.Need-returns-5
-returns-5 c = search needs
+returns-5 c = rw (c .before .before .stage5 .given .1) (c .on-after .ensures)
 
 pub step-spec : {M : Type 1} → statement M
 step-spec =

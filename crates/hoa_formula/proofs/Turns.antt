@@ -121,6 +121,7 @@ others-after c d n b piece-is.Name q h = refl
 others-after c d n b (piece-is.Number k) q h = refl
 others-after c d n b piece-is.Abort q h = refl
 others-after c d n b piece-is.Foreign q h = refl
+
 -- ---- tests
 
 module _ (d n : ℕ) (a : Ahead) (q : ℕ) where

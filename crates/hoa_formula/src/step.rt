@@ -58,7 +58,7 @@ fn refusal(p: Piece) -> u32
 }
 
 // Whether a pair's Fin may come next.
-fn opens_pair(a: Ahead) -> bool
+pub(crate) fn opens_pair(a: Ahead) -> bool
     ensures { λ r. ⌜ r ≡ opensPairAhead a ⌝ }
 {
     match a {

@@ -6,3 +6,7 @@ pub mod Turns
 pub mod Ends
 -- Steps: the reader's turn is the admission of a token
 pub mod Steps
+-- Keeping: what stays true from token to token
+pub mod Keeping
+-- Readings: the reader's loop
+pub mod Readings

@@ -10,3 +10,5 @@ pub mod Steps
 pub mod Keeping
 -- Readings: the reader's loop
 pub mod Readings
+-- Admitted: every formula of std(c) is admitted with its meaning
+pub mod Admitted

@@ -18,7 +18,7 @@ use Rattle.hoa_formula.specs.Standard.{Single, Spair, Streett, Strop, st
 use Rattle.hoa_formula.specs.Standard.{Std, stdText, IsStd, stdMeaning, rabinMeaning}
 use Rattle.hoa_formula.specs.Machines.{Buchi, RabinWants, RabinBehind, StreettWants, StreettBehind, Bare, TruthWants, TruthBehind, Wants, Behind, begin}
 use Rattle.hoa_formula.specs.Machines.{wantsOpen, wantsInf, wantsFin, wantsTruth, behindClose, behindAnd, behindOr, someWants, someBehind}
-use Rattle.hoa_formula.specs.Machines.{buchiLive, rabinWanting, rabinLive, streettWanting, streettLive, bareLive, truthWanting, truthLive, buchiDone, rabinDone, streettDone, bareDone}
+use Rattle.hoa_formula.specs.Machines.{rabinClose, rabinOr, buchiLive, rabinWanting, rabinLive, streettWanting, streettLive, bareLive, truthWanting, truthLive, buchiDone, rabinDone, streettDone, bareDone}
 use Rattle.hoa_formula.specs.Formulas.{FormulaState, FormulaStep, go, wrong, state, operand, named, bracket, number, after, pieceOf, needsInf, needsFin, byDone, meaningOf, freeStep, formulaBegin}
 use Rattle.hoa_formula.specs.Walking.{andOn, freeWalk, Stands}
 
@@ -112,3 +112,204 @@ module _ (c d n : ℕ) (ns : List ℕ) (ts : List Token) (w : Wants) (l : n < c)
       → freeWalk c (state d n ns (operand w)) (atom word-is.Fin n ts) ≡ freeWalk c (state d (suc n) (needsFin (w .rabin) ns) (after (wantsFin w))) ts
   unfolding freeWalk freeStep pieceOf
   fin-step e = begun-step c d n (needsFin (w .rabin) ns) ts (wantsFin w) l e
+
+-- ---- nonterminals
+
+-- from s the text leads behind an operand, with so many brackets and atoms
+record Arrives (c : ℕ) (s : FormulaState) (text : List Token) (d n : ℕ) (ts : List Token) (Q : Behind → List ℕ → Type 0) : Type 0 where
+  needs : List ℕ
+  behind : Behind
+  walk : freeWalk c s text ≡ freeWalk c (state d n needs (after behind)) ts
+  holds : Q behind needs
+
+mutual
+  unfolding infsEnd infopEnd
+  infs-more : (x : Infs) (n : ℕ) → n < infsEnd x n
+  infs-more (Infs.one x) n = infop-more x n
+  infs-more (Infs.more x y) n = omega (arith, infop-more x n, infs-more y (infopEnd x n))
+
+  infop-more : (x : Infop) (n : ℕ) → n < infopEnd x n
+  infop-more Infop.mark n = omega arith
+  infop-more (Infop.brackets x) n = infs-more x n
+
+-- infs, for any machine that takes rows of `&` in brackets: at e brackets, with k Inf counted
+module _ (c : ℕ) (PW : ℕ → ℕ → Wants → List ℕ → Type 0) (PB : ℕ → ℕ → Behind → List ℕ → Type 0)
+    (w-open : (e k : ℕ) (w : Wants) (ns : List ℕ) → PW e k w ns → PW (suc e) k (wantsOpen w) ns × (someWants (wantsOpen w) ≡ true))
+    (w-inf : (e k : ℕ) (w : Wants) (ns : List ℕ) → PW e k w ns → PB e (suc k) (wantsInf w) (needsInf (w .rabin) ns) × (someBehind (wantsInf w) ≡ true))
+    (b-close : (e k : ℕ) (b : Behind) (ns : List ℕ) → PB (suc e) k b ns → PB e k (behindClose b) ns × (someBehind (behindClose b) ≡ true))
+    (b-and : (e k : ℕ) (b : Behind) (ns : List ℕ) → PB e k b ns → PW e k (behindAnd b) ns × (someWants (behindAnd b) ≡ true)) where
+  mutual
+    unfolding infsEnd infopEnd infsText infopText infsCount infopCount
+    infs-walk : (x : Infs) (d n e k : ℕ) (w : Wants) (ns : List ℕ) (ts : List Token) → PW e k w ns → infsEnd x n ≤ c
+        → Arrives c (state d n ns (operand w)) (infsText x n ts) d (infsEnd x n) ts (PB e (infsCount x k))
+    infs-walk (Infs.one x) d n e k w ns ts h l = infop-walk x d n e k w ns ts h l
+    infs-walk (Infs.more x y) d n e k w ns ts h l =
+        let m = infs-more y (infopEnd x n) in
+        let a = infop-walk x d n e k w ns (both (infsText y (infopEnd x n) ts)) h (omega arith) in
+        let g = b-and e (infopCount x k) (a .behind) (a .needs) (a .holds) in
+        let r = infs-walk y d (infopEnd x n) e (infopCount x k) (behindAnd (a .behind)) (a .needs) ts (g .0) l in
+        record
+        { needs = r .needs
+        ; behind = r .behind
+        ; walk = a .walk ∙ and-step c d (infopEnd x n) (a .needs) (infsText y (infopEnd x n) ts) (a .behind) (omega arith) (g .1) ∙ r .walk
+        ; holds = r .holds
+        }
+
+    infop-walk : (x : Infop) (d n e k : ℕ) (w : Wants) (ns : List ℕ) (ts : List Token) → PW e k w ns → infopEnd x n ≤ c
+        → Arrives c (state d n ns (operand w)) (infopText x n ts) d (infopEnd x n) ts (PB e (infopCount x k))
+    infop-walk Infop.mark d n e k w ns ts h l =
+        let g = w-inf e k w ns h in
+        record { needs = needsInf (w .rabin) ns; behind = wantsInf w; walk = inf-step c d n ns ts w l (g .1); holds = g .0 }
+    infop-walk (Infop.brackets x) d n e k w ns ts h l =
+        let g = w-open e k w ns h in
+        let a = infs-walk x (suc d) n (suc e) k (wantsOpen w) ns (right ts) (g .0) l in
+        let q = b-close e (infsCount x k) (a .behind) (a .needs) (a .holds) in
+        record
+        { needs = a .needs
+        ; behind = behindClose (a .behind)
+        ; walk = open-step c d n ns (infsText x n (right ts)) w (g .1) ∙ a .walk ∙ close-step c d (infsEnd x n) (a .needs) ts (a .behind) (q .1)
+        ; holds = q .0
+        }
+
+-- infs as a Büchi formula
+buchi-walk : (c : ℕ) (x : Infs) (d n e : ℕ) (w : Wants) (ns : List ℕ) (ts : List Token) → w .buchi ≡ Buchi.live e → infsEnd x n ≤ c
+    → Arrives c (state d n ns (operand w)) (infsText x n ts) d (infsEnd x n) ts (λ b ns. b .buchi ≡ Buchi.live e)
+buchi-walk c x d n e w ns ts h l =
+    infs-walk c (λ e k w ns. w .buchi ≡ Buchi.live e) (λ e k b ns. b .buchi ≡ Buchi.live e)
+    (λ e k w ns h. (rw h, some-buchi (wantsOpen w) (rw h)))
+    (λ e k w ns h. (h, past-buchi (wantsInf w) (rw h)))
+    (λ e k b ns h. (rw h, past-buchi (behindClose b) (rw h)))
+    (λ e k b ns h. (h, some-buchi (behindAnd b) (rw h)))
+    x d n e 0 w ns ts h l
+
+-- infs as the needs of a Rabin pair
+needs-walk : (c m b : ℕ) (ms : List ℕ) (x : Infs) (d n k : ℕ) (w : Wants) (ns : List ℕ) (ts : List Token)
+    → w .rabin ≡ RabinWants.inf m b 0 × (ns ≡ k ∷ ms)
+    → infsEnd x n ≤ c
+    → Arrives c (state d n ns (operand w)) (infsText x n ts) d (infsEnd x n) ts (λ y ns. y .rabin ≡ RabinBehind.pair m b 0 × (ns ≡ infsCount x k ∷ ms))
+needs-walk c m b ms x d n k w ns ts h l =
+    infs-walk c (λ e k w ns. w .rabin ≡ RabinWants.inf m b e × (ns ≡ k ∷ ms)) (λ e k y ns. y .rabin ≡ RabinBehind.pair m b e × (ns ≡ k ∷ ms))
+    (λ e k w ns h. ((rw (h .0), h .1), some-rabin (wantsOpen w) (rw (h .0))))
+    (λ e k w ns h. ((rw (h .0), rw (h .0, h .1)), past-rabin (wantsInf w) (rw (h .0))))
+    (λ e k y ns h. ((rw (h .0), h .1), past-rabin (behindClose y) (rw (h .0))))
+    (λ e k y ns h. ((rw (h .0), h .1), some-rabin (behindAnd y) (rw (h .0))))
+    x d n 0 k w ns ts h l
+
+-- ---- Rabin
+
+mutual
+  unfolding pairEnd pheadEnd
+  pair-more : (x : Pair) (n : ℕ) → n < pairEnd x n
+  pair-more (Pair.alone x) n = phead-more x n
+  pair-more (Pair.needing x y) n = omega (arith, phead-more x n, infs-more y (pheadEnd x n))
+
+  phead-more : (x : Phead) (n : ℕ) → n < pheadEnd x n
+  phead-more Phead.mark n = omega arith
+  phead-more (Phead.brackets x) n = pair-more x n
+
+mutual
+  unfolding pairEnd pheadEnd pairText pheadText pairNeed pheadNeed
+  pair-walk : (x : Pair) (c m b d n : ℕ) (w : Wants) (ns : List ℕ) (ts : List Token) → w .rabin ≡ RabinWants.fin m b → pairEnd x n ≤ c
+      → Arrives c (state d n ns (operand w)) (pairText x n ts) d (pairEnd x n) ts (λ y ms. y .rabin ≡ RabinBehind.pair m b 0 × (ms ≡ pairNeed x ∷ ns))
+  pair-walk (Pair.alone x) c m b d n w ns ts h l = phead-walk x c m b d n w ns ts h l
+  pair-walk (Pair.needing x y) c m b d n w ns ts h l =
+      let z = infs-more y (pheadEnd x n) in
+      let a = phead-walk x c m b d n w ns (both (infsText y (pheadEnd x n) ts)) h (omega arith) in
+      let r =
+          needs-walk c m b ns y d (pheadEnd x n) (pheadNeed x) (behindAnd (a .behind)) (a .needs) ts (rw (a .holds .0), a .holds .1) l in
+      record
+      { needs = r .needs
+      ; behind = r .behind
+      ; walk =
+          a .walk
+          ∙ and-step c d (pheadEnd x n) (a .needs) (infsText y (pheadEnd x n) ts) (a .behind) (omega arith) (some-rabin (behindAnd (a .behind)) (rw (a .holds .0)))
+          ∙ r .walk
+      ; holds = r .holds
+      }
+
+  phead-walk : (x : Phead) (c m b d n : ℕ) (w : Wants) (ns : List ℕ) (ts : List Token) → w .rabin ≡ RabinWants.fin m b → pheadEnd x n ≤ c
+      → Arrives c (state d n ns (operand w)) (pheadText x n ts) d (pheadEnd x n) ts (λ y ms. y .rabin ≡ RabinBehind.pair m b 0 × (ms ≡ pheadNeed x ∷ ns))
+  phead-walk Phead.mark c m b d n w ns ts h l =
+      record
+      { needs = needsFin (w .rabin) ns
+      ; behind = wantsFin w
+      ; walk = fin-step c d n ns ts w l (past-rabin (wantsFin w) (rw h))
+      ; holds = (rw h, rw h)
+      }
+  phead-walk (Phead.brackets x) c m b d n w ns ts h l =
+      let a = pair-walk x c (suc m) (suc b) (suc d) n (wantsOpen w) ns (right ts) (rw h) l in
+      record
+      { needs = a .needs
+      ; behind = behindClose (a .behind)
+      ; walk =
+          open-step c d n ns (pairText x n (right ts)) w (some-rabin (wantsOpen w) (rw h))
+          ∙ a .walk
+          ∙ close-step c d (pairEnd x n) (a .needs) ts (a .behind) (past-rabin (behindClose (a .behind)) (rw (a .holds .0)))
+      ; holds = (rw (a .holds .0), a .holds .1)
+      }
+
+-- behind a row of pairs in m brackets
+data Rowed (m : ℕ) : RabinBehind → Type 0 where
+  paired : (b : ℕ) → Rowed m (RabinBehind.pair m b 0)
+  grouped : Rowed m (RabinBehind.group m)
+
+rowed-close : (m : ℕ) (r : RabinBehind) → Rowed (suc m) r → Rowed m (rabinClose r) × (rabinLive (rabinClose r) ≡ true)
+rowed-close m r (paired zero) = (grouped, refl)
+rowed-close m r (paired (suc b)) = (paired b, refl)
+rowed-close m r grouped = (grouped, refl)
+
+rowed-or : (m : ℕ) (r : RabinBehind) → Rowed m r → rabinOr r ≡ RabinWants.fin m 0
+rowed-or m r (paired b) = refl
+rowed-or m r grouped = refl
+
+rowed-done : (r : RabinBehind) → Rowed 0 r → rabinDone r ≡ true
+rowed-done r (paired b) = refl
+rowed-done r grouped = refl
+
+mutual
+  unfolding rabinEnd rabopEnd
+  rabin-more : (x : Rabin) (n : ℕ) → n < rabinEnd x n
+  rabin-more (Rabin.one x) n = rabop-more x n
+  rabin-more (Rabin.more x y) n = omega (arith, rabop-more x n, rabin-more y (rabopEnd x n))
+
+  rabop-more : (x : Rabop) (n : ℕ) → n < rabopEnd x n
+  rabop-more (Rabop.pair x) n = pair-more x n
+  rabop-more (Rabop.brackets x) n = rabin-more x n
+
+mutual
+  unfolding rabinEnd rabopEnd rabinText rabopText rabinNeeds rabopNeeds
+  rabin-walk : (x : Rabin) (c m b d n : ℕ) (w : Wants) (ns : List ℕ) (ts : List Token) → w .rabin ≡ RabinWants.fin m b → rabinEnd x n ≤ c
+      → Arrives c (state d n ns (operand w)) (rabinText x n ts) d (rabinEnd x n) ts (λ y ms. Rowed m (y .rabin) × (ms ≡ rabinNeeds x ns))
+  rabin-walk (Rabin.one x) c m b d n w ns ts h l = rabop-walk x c m b d n w ns ts h l
+  rabin-walk (Rabin.more x y) c m b d n w ns ts h l =
+      let z = rabin-more y (rabopEnd x n) in
+      let a = rabop-walk x c m b d n w ns (either (rabinText y (rabopEnd x n) ts)) h (omega arith) in
+      let g = rowed-or m (a .behind .rabin) (a .holds .0) in
+      let r = rabin-walk y c m 0 d (rabopEnd x n) (behindOr (a .behind)) (a .needs) ts g l in
+      record
+      { needs = r .needs
+      ; behind = r .behind
+      ; walk =
+          a .walk
+          ∙ or-step c d (rabopEnd x n) (a .needs) (rabinText y (rabopEnd x n) ts) (a .behind) (omega arith) (some-rabin (behindOr (a .behind)) (rw g))
+          ∙ r .walk
+      ; holds = (r .holds .0, r .holds .1 ∙ ap (rabinNeeds y) (a .holds .1))
+      }
+
+  rabop-walk : (x : Rabop) (c m b d n : ℕ) (w : Wants) (ns : List ℕ) (ts : List Token) → w .rabin ≡ RabinWants.fin m b → rabopEnd x n ≤ c
+      → Arrives c (state d n ns (operand w)) (rabopText x n ts) d (rabopEnd x n) ts (λ y ms. Rowed m (y .rabin) × (ms ≡ rabopNeeds x ns))
+  rabop-walk (Rabop.pair x) c m b d n w ns ts h l =
+      let a = pair-walk x c m b d n w ns ts h l in
+      record { needs = a .needs; behind = a .behind; walk = a .walk; holds = (rw (a .holds .0) (paired b), a .holds .1) }
+  rabop-walk (Rabop.brackets x) c m b d n w ns ts h l =
+      let a = rabin-walk x c (suc m) (suc b) (suc d) n (wantsOpen w) ns (right ts) (rw h) l in
+      let g = rowed-close m (a .behind .rabin) (a .holds .0) in
+      record
+      { needs = a .needs
+      ; behind = behindClose (a .behind)
+      ; walk =
+          open-step c d n ns (rabinText x n (right ts)) w (some-rabin (wantsOpen w) (rw h))
+          ∙ a .walk
+          ∙ close-step c d (rabinEnd x n) (a .needs) ts (a .behind) (past-rabin (behindClose (a .behind)) (g .1))
+      ; holds = (g .0, a .holds .1)
+      }

@@ -11,7 +11,8 @@ use borrow.Author.Tests.{lt-ltb, le-ltb, eq-eqb}
 use Rattle.hoa_tokens.specs.declared.Word.{Word}
 use Rattle.hoa_tokens.specs.declared.Word.the-variants as word-is
 use Rattle.hoa_tokens.specs.Token.{Token}
-use Rattle.hoa_formula.specs.Standard
+use Rattle.hoa_formula.specs.declared.machine.Piece.{Piece}
+use Rattle.hoa_formula.specs.declared.machine.Piece.the-variants as piece-is
 use Rattle.hoa_formula.specs.Standard.{left, right, both, either, atom, Infs, Infop, infsEnd, infopEnd, infsText, infopText, infsCount, infopCount, FormulaMeaning, standard, short}
 use Rattle.hoa_formula.specs.Standard.{Pair, Phead, pairEnd, pheadEnd, pairText, pheadText, pairNeed, pheadNeed, Rabin, Rabop, rabinEnd, rabopEnd, rabinText, rabopText, rabinNeeds, rabopNeeds}
 use Rattle.hoa_formula.specs.Standard.{Single, Spair, Streett, Strop, streettEnd, stropEnd, singleText, spairText, streettText, stropText, Truth, truthText, truthMeaning}
@@ -19,7 +20,7 @@ use Rattle.hoa_formula.specs.Standard.{Std, stdText, IsStd, stdMeaning, 
 use Rattle.hoa_formula.specs.Machines.{Buchi, RabinWants, RabinBehind, StreettWants, StreettBehind, Bare, TruthWants, TruthBehind, Wants, Behind, begin}
 use Rattle.hoa_formula.specs.Machines.{wantsOpen, wantsInf, wantsFin, wantsTruth, behindClose, behindAnd, behindOr, someWants, someBehind}
 use Rattle.hoa_formula.specs.Machines.{rabinClose, rabinOr, buchiLive, rabinWanting, rabinLive, streettWanting, streettLive, bareLive, truthWanting, truthLive, buchiDone, rabinDone, streettDone, bareDone}
-use Rattle.hoa_formula.specs.Formulas.{FormulaState, FormulaStep, go, wrong, state, operand, named, bracket, number, after, pieceOf, needsInf, needsFin, byDone, meaningOf, freeStep, formulaBegin}
+use Rattle.hoa_formula.specs.Formulas.{FormulaState, FormulaStep, go, wrong, state, operand, named, bracket, number, after, wordPiece, pieceOf, onOperand, needsInf, needsFin, byDone, meaningOf, freeStep, formulaBegin}
 use Rattle.hoa_formula.specs.Walking.{andOn, freeWalk, Stands}
 
 -- ---- some machine goes on
@@ -313,3 +314,222 @@ mutual
           ∙ close-step c d (rabinEnd x n) (a .needs) ts (a .behind) (past-rabin (behindClose (a .behind)) (g .1))
       ; holds = (g .0, a .holds .1)
       }
+
+-- ---- Streett, and the bare pair
+
+-- fin(i) where a Streett pair is expected
+streett-fin-walk : (x : Single) (c m u d n : ℕ) (w : Wants) (ns : List ℕ) (ts : List Token) → w .streett ≡ StreettWants.fin (suc m) (suc u) → n < c
+    → Arrives c (state d n ns (operand w)) (singleText x word-is.Fin n ts) d (suc n) ts (λ y ms. y .streett ≡ StreettBehind.fin m u)
+unfolding singleText
+streett-fin-walk Single.mark c m u d n w ns ts h l =
+    record
+    { needs = needsFin (w .rabin) ns
+    ; behind = wantsFin w
+    ; walk = fin-step c d n ns ts w l (past-streett (wantsFin w) (rw h))
+    ; holds = rw h
+    }
+streett-fin-walk (Single.brackets x) c m u d n w ns ts h l =
+    let a = streett-fin-walk x c (suc m) (suc u) (suc d) n (wantsOpen w) ns (right ts) (rw h) l in
+    record
+    { needs = a .needs
+    ; behind = behindClose (a .behind)
+    ; walk =
+        open-step c d n ns (singleText x word-is.Fin n (right ts)) w (some-streett (wantsOpen w) (rw h))
+        ∙ a .walk
+        ∙ close-step c d (suc n) (a .needs) ts (a .behind) (past-streett (behindClose (a .behind)) (rw (a .holds)))
+    ; holds = rw (a .holds)
+    }
+
+-- inf(i) behind it
+streett-inf-walk : (x : Single) (c m v d n : ℕ) (w : Wants) (ns : List ℕ) (ts : List Token) → w .streett ≡ StreettWants.inf m v → n < c
+    → Arrives c (state d n ns (operand w)) (singleText x word-is.Inf n ts) d (suc n) ts (λ y ms. y .streett ≡ StreettBehind.inf m v)
+unfolding singleText
+streett-inf-walk Single.mark c m v d n w ns ts h l =
+    record
+    { needs = needsInf (w .rabin) ns
+    ; behind = wantsInf w
+    ; walk = inf-step c d n ns ts w l (past-streett (wantsInf w) (rw h))
+    ; holds = rw h
+    }
+streett-inf-walk (Single.brackets x) c m v d n w ns ts h l =
+    let a = streett-inf-walk x c m (suc v) (suc d) n (wantsOpen w) ns (right ts) (rw h) l in
+    record
+    { needs = a .needs
+    ; behind = behindClose (a .behind)
+    ; walk =
+        open-step c d n ns (singleText x word-is.Inf n (right ts)) w (some-streett (wantsOpen w) (rw h))
+        ∙ a .walk
+        ∙ close-step c d (suc n) (a .needs) ts (a .behind) (past-streett (behindClose (a .behind)) (rw (a .holds)))
+    ; holds = rw (a .holds)
+    }
+
+-- spair(i) in its bracket
+streett-pair-walk : (x : Spair) (c m u d n : ℕ) (w : Wants) (ns : List ℕ) (ts : List Token) → w .streett ≡ StreettWants.fin (suc m) (suc u) → suc (suc n) ≤ c
+    → Arrives c (state d n ns (operand w)) (spairText x n ts) d (suc (suc n)) ts (λ y ms. y .streett ≡ StreettBehind.inf m 0)
+unfolding spairText
+streett-pair-walk x c m u d n w ns ts h l =
+    let a = streett-fin-walk (x .fin) c m u d n w ns (either (singleText (x .inf) word-is.Inf (suc n) ts)) h (omega arith) in
+    let r = streett-inf-walk (x .inf) c m 0 d (suc n) (behindOr (a .behind)) (a .needs) ts (rw (a .holds)) l in
+    record
+    { needs = r .needs
+    ; behind = r .behind
+    ; walk =
+        a .walk
+        ∙ or-step c d (suc n) (a .needs) (singleText (x .inf) word-is.Inf (suc n) ts) (a .behind) l (some-streett (behindOr (a .behind)) (rw (a .holds)))
+        ∙ r .walk
+    ; holds = r .holds
+    }
+
+mutual
+  unfolding streettEnd stropEnd
+  streett-more : (x : Streett) (n : ℕ) → n < streettEnd x n
+  streett-more (Streett.one x) n = strop-more x n
+  streett-more (Streett.more x y) n = omega (arith, strop-more x n, streett-more y (stropEnd x n))
+
+  strop-more : (x : Strop) (n : ℕ) → n < stropEnd x n
+  strop-more (Strop.pair x) n = omega arith
+  strop-more (Strop.brackets x) n = streett-more x n
+
+mutual
+  unfolding streettEnd stropEnd streettText stropText
+  streett-walk : (x : Streett) (c m u d n : ℕ) (w : Wants) (ns : List ℕ) (ts : List Token) → w .streett ≡ StreettWants.fin m u → streettEnd x n ≤ c
+      → Arrives c (state d n ns (operand w)) (streettText x n ts) d (streettEnd x n) ts (λ y ms. y .streett ≡ StreettBehind.pair m)
+  streett-walk (Streett.one x) c m u d n w ns ts h l = strop-walk x c m u d n w ns ts h l
+  streett-walk (Streett.more x y) c m u d n w ns ts h l =
+      let z = streett-more y (stropEnd x n) in
+      let a = strop-walk x c m u d n w ns (both (streettText y (stropEnd x n) ts)) h (omega arith) in
+      let r = streett-walk y c m 0 d (stropEnd x n) (behindAnd (a .behind)) (a .needs) ts (rw (a .holds)) l in
+      record
+      { needs = r .needs
+      ; behind = r .behind
+      ; walk =
+          a .walk
+          ∙ and-step c d (stropEnd x n) (a .needs) (streettText y (stropEnd x n) ts) (a .behind) (omega arith) (some-streett (behindAnd (a .behind)) (rw (a .holds)))
+          ∙ r .walk
+      ; holds = r .holds
+      }
+
+  strop-walk : (x : Strop) (c m u d n : ℕ) (w : Wants) (ns : List ℕ) (ts : List Token) → w .streett ≡ StreettWants.fin m u → stropEnd x n ≤ c
+      → Arrives c (state d n ns (operand w)) (stropText x n ts) d (stropEnd x n) ts (λ y ms. y .streett ≡ StreettBehind.pair m)
+  strop-walk (Strop.pair x) c m u d n w ns ts h l =
+      let a = streett-pair-walk x c m u (suc d) n (wantsOpen w) ns (right ts) (rw h) l in
+      record
+      { needs = a .needs
+      ; behind = behindClose (a .behind)
+      ; walk =
+          open-step c d n ns (spairText x n (right ts)) w (some-streett (wantsOpen w) (rw h))
+          ∙ a .walk
+          ∙ close-step c d (suc (suc n)) (a .needs) ts (a .behind) (past-streett (behindClose (a .behind)) (rw (a .holds)))
+      ; holds = rw (a .holds)
+      }
+  strop-walk (Strop.brackets x) c m u d n w ns ts h l =
+      let a = streett-walk x c (suc m) (suc u) (suc d) n (wantsOpen w) ns (right ts) (rw h) l in
+      record
+      { needs = a .needs
+      ; behind = behindClose (a .behind)
+      ; walk =
+          open-step c d n ns (streettText x n (right ts)) w (some-streett (wantsOpen w) (rw h))
+          ∙ a .walk
+          ∙ close-step c d (streettEnd x n) (a .needs) ts (a .behind) (past-streett (behindClose (a .behind)) (rw (a .holds)))
+      ; holds = rw (a .holds)
+      }
+
+bare-fin-walk : (x : Single) (c u d n : ℕ) (w : Wants) (ns : List ℕ) (ts : List Token) → w .bare ≡ Bare.fin u → n < c
+    → Arrives c (state d n ns (operand w)) (singleText x word-is.Fin n ts) d (suc n) ts (λ y ms. y .bare ≡ Bare.fin u)
+unfolding singleText
+bare-fin-walk Single.mark c u d n w ns ts h l =
+    record
+    { needs = needsFin (w .rabin) ns
+    ; behind = wantsFin w
+    ; walk = fin-step c d n ns ts w l (past-bare (wantsFin w) (rw h))
+    ; holds = rw h
+    }
+bare-fin-walk (Single.brackets x) c u d n w ns ts h l =
+    let a = bare-fin-walk x c (suc u) (suc d) n (wantsOpen w) ns (right ts) (rw h) l in
+    record
+    { needs = a .needs
+    ; behind = behindClose (a .behind)
+    ; walk =
+        open-step c d n ns (singleText x word-is.Fin n (right ts)) w (some-bare (wantsOpen w) (rw h))
+        ∙ a .walk
+        ∙ close-step c d (suc n) (a .needs) ts (a .behind) (past-bare (behindClose (a .behind)) (rw (a .holds)))
+    ; holds = rw (a .holds)
+    }
+
+bare-inf-walk : (x : Single) (c v d n : ℕ) (w : Wants) (ns : List ℕ) (ts : List Token) → w .bare ≡ Bare.inf v → n < c
+    → Arrives c (state d n ns (operand w)) (singleText x word-is.Inf n ts) d (suc n) ts (λ y ms. y .bare ≡ Bare.inf v)
+unfolding singleText
+bare-inf-walk Single.mark c v d n w ns ts h l =
+    record
+    { needs = needsInf (w .rabin) ns
+    ; behind = wantsInf w
+    ; walk = inf-step c d n ns ts w l (past-bare (wantsInf w) (rw h))
+    ; holds = rw h
+    }
+bare-inf-walk (Single.brackets x) c v d n w ns ts h l =
+    let a = bare-inf-walk x c (suc v) (suc d) n (wantsOpen w) ns (right ts) (rw h) l in
+    record
+    { needs = a .needs
+    ; behind = behindClose (a .behind)
+    ; walk =
+        open-step c d n ns (singleText x word-is.Inf n (right ts)) w (some-bare (wantsOpen w) (rw h))
+        ∙ a .walk
+        ∙ close-step c d (suc n) (a .needs) ts (a .behind) (past-bare (behindClose (a .behind)) (rw (a .holds)))
+    ; holds = rw (a .holds)
+    }
+
+bare-walk : (x : Spair) (c d n : ℕ) (w : Wants) (ns : List ℕ) (ts : List Token) → w .bare ≡ Bare.fin 0 → suc (suc n) ≤ c
+    → Arrives c (state d n ns (operand w)) (spairText x n ts) d (suc (suc n)) ts (λ y ms. y .bare ≡ Bare.inf 0)
+unfolding spairText
+bare-walk x c d n w ns ts h l =
+    let a = bare-fin-walk (x .fin) c 0 d n w ns (either (singleText (x .inf) word-is.Inf (suc n) ts)) h (omega arith) in
+    let r = bare-inf-walk (x .inf) c 0 d (suc n) (behindOr (a .behind)) (a .needs) ts (rw (a .holds)) l in
+    record
+    { needs = r .needs
+    ; behind = r .behind
+    ; walk =
+        a .walk
+        ∙ or-step c d (suc n) (a .needs) (singleText (x .inf) word-is.Inf (suc n) ts) (a .behind) l (some-bare (behindOr (a .behind)) (rw (a .holds)))
+        ∙ r .walk
+    ; holds = r .holds
+    }
+
+-- ---- truth values
+
+truth-step : (c d n : ℕ) (ns : List ℕ) (ts : List Token) (w : Wants) (e : ℕ) (t : Bool) (x : Word) → wordPiece x ≡ piece-is.Truth t → w .truth ≡ TruthWants.live e
+    → freeWalk c (state d n ns (operand w)) (Token.word x ∷ ts) ≡ freeWalk c (state d n ns (after (wantsTruth t w))) ts
+unfolding freeWalk freeStep pieceOf
+truth-step c d n ns ts w e t x q h =
+    ap (λ (p : Piece). andOn (onOperand c d n ns w p) (λ s. freeWalk c s ts)) q
+    ∙ ap (λ (y : Bool). andOn (cond y (go (state d n ns (after (wantsTruth t w)))) (wrong 41)) (λ s. freeWalk c s ts)) (past-truth (wantsTruth t w) (rw h))
+
+-- no machine but the one for the truth values goes on
+abbrev only : Behind → Type 0
+only b = (b .buchi ≡ Buchi.lost) × (b .rabin ≡ RabinBehind.lost) × (b .streett ≡ StreettBehind.lost) × (b .bare ≡ Bare.lost)
+
+only-close : (b : Behind) → only b → only (behindClose b)
+only-close b h = (rw (h .0), rw (h .1), rw (h .2), rw (h .3))
+
+truth-value : Truth → Bool
+truth-value Truth.truth = true
+truth-value Truth.falsity = false
+truth-value (Truth.brackets x) = truth-value x
+
+truth-walk : (x : Truth) (c d n e : ℕ) (w : Wants) (ns : List ℕ) (ts : List Token) → w .truth ≡ TruthWants.live e
+    → Arrives c (state d n ns (operand w)) (truthText x ts) d n ts (λ y ms. (y .truth ≡ TruthBehind.is (truth-value x) e) × only y)
+unfolding truthText truth-value
+truth-walk Truth.truth c d n e w ns ts h =
+    record { needs = ns; behind = wantsTruth true w; walk = truth-step c d n ns ts w e true word-is.True refl h; holds = (rw h, (refl, refl, refl, refl)) }
+truth-walk Truth.falsity c d n e w ns ts h =
+    record { needs = ns; behind = wantsTruth false w; walk = truth-step c d n ns ts w e false word-is.False refl h; holds = (rw h, (refl, refl, refl, refl)) }
+truth-walk (Truth.brackets x) c d n e w ns ts h =
+    let a = truth-walk x c (suc d) n (suc e) (wantsOpen w) ns (right ts) (rw h) in
+    record
+    { needs = a .needs
+    ; behind = behindClose (a .behind)
+    ; walk =
+        open-step c d n ns (truthText x (right ts)) w (some-truth (wantsOpen w) (rw h))
+        ∙ a .walk
+        ∙ close-step c d n (a .needs) ts (a .behind) (past-truth (behindClose (a .behind)) (rw (a .holds .0)))
+    ; holds = (rw (a .holds .0), only-close (a .behind) (a .holds .1))
+    }

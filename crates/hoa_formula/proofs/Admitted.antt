@@ -11,16 +11,17 @@ use borrow.Author.Tests.{lt-ltb, le-ltb, eq-eqb}
 use Rattle.hoa_tokens.specs.declared.Word.{Word}
 use Rattle.hoa_tokens.specs.declared.Word.the-variants as word-is
 use Rattle.hoa_tokens.specs.Token.{Token}
+use Rattle.table.specs.declared.Acceptance.the-variants as acceptance
 use Rattle.hoa_formula.specs.declared.machine.Piece.{Piece}
 use Rattle.hoa_formula.specs.declared.machine.Piece.the-variants as piece-is
 use Rattle.hoa_formula.specs.Standard.{left, right, both, either, atom, Infs, Infop, infsEnd, infopEnd, infsText, infopText, infsCount, infopCount, FormulaMeaning, standard, short}
 use Rattle.hoa_formula.specs.Standard.{Pair, Phead, pairEnd, pheadEnd, pairText, pheadText, pairNeed, pheadNeed, Rabin, Rabop, rabinEnd, rabopEnd, rabinText, rabopText, rabinNeeds, rabopNeeds}
 use Rattle.hoa_formula.specs.Standard.{Single, Spair, Streett, Strop, streettEnd, stropEnd, singleText, spairText, streettText, stropText, Truth, truthText, truthMeaning}
-use Rattle.hoa_formula.specs.Standard.{Std, stdText, IsStd, stdMeaning, rabinMeaning}
+use Rattle.hoa_formula.specs.Standard.{Std, stdText, IsStd, stdMeaning, rabinMeaning, noNeeds}
 use Rattle.hoa_formula.specs.Machines.{Buchi, RabinWants, RabinBehind, StreettWants, StreettBehind, Bare, TruthWants, TruthBehind, Wants, Behind, begin}
 use Rattle.hoa_formula.specs.Machines.{wantsOpen, wantsInf, wantsFin, wantsTruth, behindClose, behindAnd, behindOr, someWants, someBehind}
-use Rattle.hoa_formula.specs.Machines.{rabinClose, rabinOr, buchiLive, rabinWanting, rabinLive, streettWanting, streettLive, bareLive, truthWanting, truthLive, buchiDone, rabinDone, streettDone, bareDone}
-use Rattle.hoa_formula.specs.Formulas.{FormulaState, FormulaStep, go, wrong, state, operand, named, bracket, number, after, wordPiece, pieceOf, onOperand, needsInf, needsFin, byDone, meaningOf, freeStep, formulaBegin}
+use Rattle.hoa_formula.specs.Machines.{rabinOpen, rabinInf, rabinClose, rabinOr, buchiLive, rabinWanting, rabinLive, streettWanting, streettLive, bareLive, truthWanting, truthLive, buchiDone, rabinDone, streettDone, bareDone}
+use Rattle.hoa_formula.specs.Formulas.{FormulaState, FormulaStep, go, wrong, state, operand, named, bracket, number, after, wordPiece, pieceOf, onOperand, needsInf, needsFin, byDone, truthDone, meaningOf, freeStep, formulaBegin}
 use Rattle.hoa_formula.specs.Walking.{andOn, freeWalk, Stands}
 
 -- ---- some machine goes on
@@ -185,15 +186,17 @@ buchi-walk c x d n e w ns ts h l =
 
 -- infs as the needs of a Rabin pair
 needs-walk : (c m b : ℕ) (ms : List ℕ) (x : Infs) (d n k : ℕ) (w : Wants) (ns : List ℕ) (ts : List Token)
-    → w .rabin ≡ RabinWants.inf m b 0 × (ns ≡ k ∷ ms)
+    → w .rabin ≡ RabinWants.inf m b 0 × (ns ≡ k ∷ ms) × (w .buchi ≡ Buchi.lost)
     → infsEnd x n ≤ c
-    → Arrives c (state d n ns (operand w)) (infsText x n ts) d (infsEnd x n) ts (λ y ns. y .rabin ≡ RabinBehind.pair m b 0 × (ns ≡ infsCount x k ∷ ms))
+    → Arrives c (state d n ns (operand w)) (infsText x n ts) d (infsEnd x n) ts
+    (λ y ns. y .rabin ≡ RabinBehind.pair m b 0 × (ns ≡ infsCount x k ∷ ms) × (y .buchi ≡ Buchi.lost))
 needs-walk c m b ms x d n k w ns ts h l =
-    infs-walk c (λ e k w ns. w .rabin ≡ RabinWants.inf m b e × (ns ≡ k ∷ ms)) (λ e k y ns. y .rabin ≡ RabinBehind.pair m b e × (ns ≡ k ∷ ms))
-    (λ e k w ns h. ((rw (h .0), h .1), some-rabin (wantsOpen w) (rw (h .0))))
-    (λ e k w ns h. ((rw (h .0), rw (h .0, h .1)), past-rabin (wantsInf w) (rw (h .0))))
-    (λ e k y ns h. ((rw (h .0), h .1), past-rabin (behindClose y) (rw (h .0))))
-    (λ e k y ns h. ((rw (h .0), h .1), some-rabin (behindAnd y) (rw (h .0))))
+    infs-walk c (λ e k w ns. w .rabin ≡ RabinWants.inf m b e × (ns ≡ k ∷ ms) × (w .buchi ≡ Buchi.lost))
+    (λ e k y ns. y .rabin ≡ RabinBehind.pair m b e × (ns ≡ k ∷ ms) × (y .buchi ≡ Buchi.lost))
+    (λ e k w ns h. ((rw (h .0), h .1, rw (h .2)), some-rabin (wantsOpen w) (rw (h .0))))
+    (λ e k w ns h. ((rw (h .0), rw (h .0, h .1), h .2), past-rabin (wantsInf w) (rw (h .0))))
+    (λ e k y ns h. ((rw (h .0), h .1, rw (h .2)), past-rabin (behindClose y) (rw (h .0))))
+    (λ e k y ns h. ((rw (h .0), h .1, h .2), some-rabin (behindAnd y) (rw (h .0))))
     x d n 0 k w ns ts h l
 
 -- ---- Rabin
@@ -211,13 +214,13 @@ mutual
 mutual
   unfolding pairEnd pheadEnd pairText pheadText pairNeed pheadNeed
   pair-walk : (x : Pair) (c m b d n : ℕ) (w : Wants) (ns : List ℕ) (ts : List Token) → w .rabin ≡ RabinWants.fin m b → pairEnd x n ≤ c
-      → Arrives c (state d n ns (operand w)) (pairText x n ts) d (pairEnd x n) ts (λ y ms. y .rabin ≡ RabinBehind.pair m b 0 × (ms ≡ pairNeed x ∷ ns))
+      → Arrives c (state d n ns (operand w)) (pairText x n ts) d (pairEnd x n) ts (λ y ms. y .rabin ≡ RabinBehind.pair m b 0 × (ms ≡ pairNeed x ∷ ns) × (y .buchi ≡ Buchi.lost))
   pair-walk (Pair.alone x) c m b d n w ns ts h l = phead-walk x c m b d n w ns ts h l
   pair-walk (Pair.needing x y) c m b d n w ns ts h l =
       let z = infs-more y (pheadEnd x n) in
       let a = phead-walk x c m b d n w ns (both (infsText y (pheadEnd x n) ts)) h (omega arith) in
       let r =
-          needs-walk c m b ns y d (pheadEnd x n) (pheadNeed x) (behindAnd (a .behind)) (a .needs) ts (rw (a .holds .0), a .holds .1) l in
+          needs-walk c m b ns y d (pheadEnd x n) (pheadNeed x) (behindAnd (a .behind)) (a .needs) ts (rw (a .holds .0), a .holds .1, a .holds .2) l in
       record
       { needs = r .needs
       ; behind = r .behind
@@ -229,13 +232,13 @@ mutual
       }
 
   phead-walk : (x : Phead) (c m b d n : ℕ) (w : Wants) (ns : List ℕ) (ts : List Token) → w .rabin ≡ RabinWants.fin m b → pheadEnd x n ≤ c
-      → Arrives c (state d n ns (operand w)) (pheadText x n ts) d (pheadEnd x n) ts (λ y ms. y .rabin ≡ RabinBehind.pair m b 0 × (ms ≡ pheadNeed x ∷ ns))
+      → Arrives c (state d n ns (operand w)) (pheadText x n ts) d (pheadEnd x n) ts (λ y ms. y .rabin ≡ RabinBehind.pair m b 0 × (ms ≡ pheadNeed x ∷ ns) × (y .buchi ≡ Buchi.lost))
   phead-walk Phead.mark c m b d n w ns ts h l =
       record
       { needs = needsFin (w .rabin) ns
       ; behind = wantsFin w
       ; walk = fin-step c d n ns ts w l (past-rabin (wantsFin w) (rw h))
-      ; holds = (rw h, rw h)
+      ; holds = (rw h, rw h, refl)
       }
   phead-walk (Phead.brackets x) c m b d n w ns ts h l =
       let a = pair-walk x c (suc m) (suc b) (suc d) n (wantsOpen w) ns (right ts) (rw h) l in
@@ -246,7 +249,7 @@ mutual
           open-step c d n ns (pairText x n (right ts)) w (some-rabin (wantsOpen w) (rw h))
           ∙ a .walk
           ∙ close-step c d (pairEnd x n) (a .needs) ts (a .behind) (past-rabin (behindClose (a .behind)) (rw (a .holds .0)))
-      ; holds = (rw (a .holds .0), a .holds .1)
+      ; holds = (rw (a .holds .0), a .holds .1, rw (a .holds .2))
       }
 
 -- behind a row of pairs in m brackets
@@ -280,7 +283,7 @@ mutual
 mutual
   unfolding rabinEnd rabopEnd rabinText rabopText rabinNeeds rabopNeeds
   rabin-walk : (x : Rabin) (c m b d n : ℕ) (w : Wants) (ns : List ℕ) (ts : List Token) → w .rabin ≡ RabinWants.fin m b → rabinEnd x n ≤ c
-      → Arrives c (state d n ns (operand w)) (rabinText x n ts) d (rabinEnd x n) ts (λ y ms. Rowed m (y .rabin) × (ms ≡ rabinNeeds x ns))
+      → Arrives c (state d n ns (operand w)) (rabinText x n ts) d (rabinEnd x n) ts (λ y ms. Rowed m (y .rabin) × (ms ≡ rabinNeeds x ns) × (y .buchi ≡ Buchi.lost))
   rabin-walk (Rabin.one x) c m b d n w ns ts h l = rabop-walk x c m b d n w ns ts h l
   rabin-walk (Rabin.more x y) c m b d n w ns ts h l =
       let z = rabin-more y (rabopEnd x n) in
@@ -294,14 +297,14 @@ mutual
           a .walk
           ∙ or-step c d (rabopEnd x n) (a .needs) (rabinText y (rabopEnd x n) ts) (a .behind) (omega arith) (some-rabin (behindOr (a .behind)) (rw g))
           ∙ r .walk
-      ; holds = (r .holds .0, r .holds .1 ∙ ap (rabinNeeds y) (a .holds .1))
+      ; holds = (r .holds .0, r .holds .1 ∙ ap (rabinNeeds y) (a .holds .1), r .holds .2)
       }
 
   rabop-walk : (x : Rabop) (c m b d n : ℕ) (w : Wants) (ns : List ℕ) (ts : List Token) → w .rabin ≡ RabinWants.fin m b → rabopEnd x n ≤ c
-      → Arrives c (state d n ns (operand w)) (rabopText x n ts) d (rabopEnd x n) ts (λ y ms. Rowed m (y .rabin) × (ms ≡ rabopNeeds x ns))
+      → Arrives c (state d n ns (operand w)) (rabopText x n ts) d (rabopEnd x n) ts (λ y ms. Rowed m (y .rabin) × (ms ≡ rabopNeeds x ns) × (y .buchi ≡ Buchi.lost))
   rabop-walk (Rabop.pair x) c m b d n w ns ts h l =
       let a = pair-walk x c m b d n w ns ts h l in
-      record { needs = a .needs; behind = a .behind; walk = a .walk; holds = (rw (a .holds .0) (paired b), a .holds .1) }
+      record { needs = a .needs; behind = a .behind; walk = a .walk; holds = (rw (a .holds .0) (paired b), a .holds .1, a .holds .2) }
   rabop-walk (Rabop.brackets x) c m b d n w ns ts h l =
       let a = rabin-walk x c (suc m) (suc b) (suc d) n (wantsOpen w) ns (right ts) (rw h) l in
       let g = rowed-close m (a .behind .rabin) (a .holds .0) in
@@ -312,10 +315,47 @@ mutual
           open-step c d n ns (rabinText x n (right ts)) w (some-rabin (wantsOpen w) (rw h))
           ∙ a .walk
           ∙ close-step c d (rabinEnd x n) (a .needs) ts (a .behind) (past-rabin (behindClose (a .behind)) (g .1))
-      ; holds = (g .0, a .holds .1)
+      ; holds = (g .0, a .holds .1, rw (a .holds .2))
       }
 
 -- ---- Streett, and the bare pair
+
+-- neither Büchi nor Rabin goes on with an Inf
+data Head : RabinWants → Type 0 where
+  none : Head RabinWants.lost
+  some : (m b : ℕ) → Head (RabinWants.fin m b)
+
+abbrev Plain : Wants → Type 0
+Plain w = (w .buchi ≡ Buchi.lost) × Head (w .rabin)
+
+abbrev Quiet : Behind → Type 0
+Quiet b = (b .buchi ≡ Buchi.lost) × (b .rabin ≡ RabinBehind.lost)
+
+head-open : (r : RabinWants) → Head r → Head (rabinOpen r)
+head-open r none = none
+head-open r (some m b) = some (suc m) (suc b)
+
+head-inf : (r : RabinWants) → Head r → rabinInf r ≡ RabinBehind.lost
+head-inf r none = refl
+head-inf r (some m b) = refl
+
+or-head : (r : RabinBehind) → Head (rabinOr r)
+or-head RabinBehind.lost = none
+or-head (RabinBehind.pair m b zero) = some m 0
+or-head (RabinBehind.pair m b (suc d)) = none
+or-head (RabinBehind.group m) = some m 0
+
+plain-open : (w : Wants) → Plain w → Plain (wantsOpen w)
+plain-open w h = (rw (h .0), head-open (w .rabin) (h .1))
+
+plain-inf : (w : Wants) → Plain w → Quiet (wantsInf w)
+plain-inf w h = (h .0, head-inf (w .rabin) (h .1))
+
+or-plain : (b : Behind) → Plain (behindOr b)
+or-plain b = (refl, or-head (b .rabin))
+
+quiet-close : (b : Behind) → Quiet b → Quiet (behindClose b)
+quiet-close b h = (rw (h .0), rw (h .1))
 
 -- fin(i) where a Streett pair is expected
 streett-fin-walk : (x : Single) (c m u d n : ℕ) (w : Wants) (ns : List ℕ) (ts : List Token) → w .streett ≡ StreettWants.fin (suc m) (suc u) → n < c
@@ -341,35 +381,35 @@ streett-fin-walk (Single.brackets x) c m u d n w ns ts h l =
     }
 
 -- inf(i) behind it
-streett-inf-walk : (x : Single) (c m v d n : ℕ) (w : Wants) (ns : List ℕ) (ts : List Token) → w .streett ≡ StreettWants.inf m v → n < c
-    → Arrives c (state d n ns (operand w)) (singleText x word-is.Inf n ts) d (suc n) ts (λ y ms. y .streett ≡ StreettBehind.inf m v)
+streett-inf-walk : (x : Single) (c m v d n : ℕ) (w : Wants) (ns : List ℕ) (ts : List Token) → w .streett ≡ StreettWants.inf m v × Plain w → n < c
+    → Arrives c (state d n ns (operand w)) (singleText x word-is.Inf n ts) d (suc n) ts (λ y ms. (y .streett ≡ StreettBehind.inf m v) × Quiet y)
 unfolding singleText
 streett-inf-walk Single.mark c m v d n w ns ts h l =
     record
     { needs = needsInf (w .rabin) ns
     ; behind = wantsInf w
-    ; walk = inf-step c d n ns ts w l (past-streett (wantsInf w) (rw h))
-    ; holds = rw h
+    ; walk = inf-step c d n ns ts w l (past-streett (wantsInf w) (rw (h .0)))
+    ; holds = (rw (h .0), plain-inf w (h .1))
     }
 streett-inf-walk (Single.brackets x) c m v d n w ns ts h l =
-    let a = streett-inf-walk x c m (suc v) (suc d) n (wantsOpen w) ns (right ts) (rw h) l in
+    let a = streett-inf-walk x c m (suc v) (suc d) n (wantsOpen w) ns (right ts) (rw (h .0), plain-open w (h .1)) l in
     record
     { needs = a .needs
     ; behind = behindClose (a .behind)
     ; walk =
-        open-step c d n ns (singleText x word-is.Inf n (right ts)) w (some-streett (wantsOpen w) (rw h))
+        open-step c d n ns (singleText x word-is.Inf n (right ts)) w (some-streett (wantsOpen w) (rw (h .0)))
         ∙ a .walk
-        ∙ close-step c d (suc n) (a .needs) ts (a .behind) (past-streett (behindClose (a .behind)) (rw (a .holds)))
-    ; holds = rw (a .holds)
+        ∙ close-step c d (suc n) (a .needs) ts (a .behind) (past-streett (behindClose (a .behind)) (rw (a .holds .0)))
+    ; holds = (rw (a .holds .0), quiet-close (a .behind) (a .holds .1))
     }
 
 -- spair(i) in its bracket
 streett-pair-walk : (x : Spair) (c m u d n : ℕ) (w : Wants) (ns : List ℕ) (ts : List Token) → w .streett ≡ StreettWants.fin (suc m) (suc u) → suc (suc n) ≤ c
-    → Arrives c (state d n ns (operand w)) (spairText x n ts) d (suc (suc n)) ts (λ y ms. y .streett ≡ StreettBehind.inf m 0)
+    → Arrives c (state d n ns (operand w)) (spairText x n ts) d (suc (suc n)) ts (λ y ms. (y .streett ≡ StreettBehind.inf m 0) × Quiet y)
 unfolding spairText
 streett-pair-walk x c m u d n w ns ts h l =
     let a = streett-fin-walk (x .fin) c m u d n w ns (either (singleText (x .inf) word-is.Inf (suc n) ts)) h (omega arith) in
-    let r = streett-inf-walk (x .inf) c m 0 d (suc n) (behindOr (a .behind)) (a .needs) ts (rw (a .holds)) l in
+    let r = streett-inf-walk (x .inf) c m 0 d (suc n) (behindOr (a .behind)) (a .needs) ts (rw (a .holds), or-plain (a .behind)) l in
     record
     { needs = r .needs
     ; behind = r .behind
@@ -393,24 +433,24 @@ mutual
 mutual
   unfolding streettEnd stropEnd streettText stropText
   streett-walk : (x : Streett) (c m u d n : ℕ) (w : Wants) (ns : List ℕ) (ts : List Token) → w .streett ≡ StreettWants.fin m u → streettEnd x n ≤ c
-      → Arrives c (state d n ns (operand w)) (streettText x n ts) d (streettEnd x n) ts (λ y ms. y .streett ≡ StreettBehind.pair m)
+      → Arrives c (state d n ns (operand w)) (streettText x n ts) d (streettEnd x n) ts (λ y ms. (y .streett ≡ StreettBehind.pair m) × Quiet y)
   streett-walk (Streett.one x) c m u d n w ns ts h l = strop-walk x c m u d n w ns ts h l
   streett-walk (Streett.more x y) c m u d n w ns ts h l =
       let z = streett-more y (stropEnd x n) in
       let a = strop-walk x c m u d n w ns (both (streettText y (stropEnd x n) ts)) h (omega arith) in
-      let r = streett-walk y c m 0 d (stropEnd x n) (behindAnd (a .behind)) (a .needs) ts (rw (a .holds)) l in
+      let r = streett-walk y c m 0 d (stropEnd x n) (behindAnd (a .behind)) (a .needs) ts (rw (a .holds .0)) l in
       record
       { needs = r .needs
       ; behind = r .behind
       ; walk =
           a .walk
-          ∙ and-step c d (stropEnd x n) (a .needs) (streettText y (stropEnd x n) ts) (a .behind) (omega arith) (some-streett (behindAnd (a .behind)) (rw (a .holds)))
+          ∙ and-step c d (stropEnd x n) (a .needs) (streettText y (stropEnd x n) ts) (a .behind) (omega arith) (some-streett (behindAnd (a .behind)) (rw (a .holds .0)))
           ∙ r .walk
       ; holds = r .holds
       }
 
   strop-walk : (x : Strop) (c m u d n : ℕ) (w : Wants) (ns : List ℕ) (ts : List Token) → w .streett ≡ StreettWants.fin m u → stropEnd x n ≤ c
-      → Arrives c (state d n ns (operand w)) (stropText x n ts) d (stropEnd x n) ts (λ y ms. y .streett ≡ StreettBehind.pair m)
+      → Arrives c (state d n ns (operand w)) (stropText x n ts) d (stropEnd x n) ts (λ y ms. (y .streett ≡ StreettBehind.pair m) × Quiet y)
   strop-walk (Strop.pair x) c m u d n w ns ts h l =
       let a = streett-pair-walk x c m u (suc d) n (wantsOpen w) ns (right ts) (rw h) l in
       record
@@ -419,8 +459,8 @@ mutual
       ; walk =
           open-step c d n ns (spairText x n (right ts)) w (some-streett (wantsOpen w) (rw h))
           ∙ a .walk
-          ∙ close-step c d (suc (suc n)) (a .needs) ts (a .behind) (past-streett (behindClose (a .behind)) (rw (a .holds)))
-      ; holds = rw (a .holds)
+          ∙ close-step c d (suc (suc n)) (a .needs) ts (a .behind) (past-streett (behindClose (a .behind)) (rw (a .holds .0)))
+      ; holds = (rw (a .holds .0), quiet-close (a .behind) (a .holds .1))
       }
   strop-walk (Strop.brackets x) c m u d n w ns ts h l =
       let a = streett-walk x c (suc m) (suc u) (suc d) n (wantsOpen w) ns (right ts) (rw h) l in
@@ -430,8 +470,8 @@ mutual
       ; walk =
           open-step c d n ns (streettText x n (right ts)) w (some-streett (wantsOpen w) (rw h))
           ∙ a .walk
-          ∙ close-step c d (streettEnd x n) (a .needs) ts (a .behind) (past-streett (behindClose (a .behind)) (rw (a .holds)))
-      ; holds = rw (a .holds)
+          ∙ close-step c d (streettEnd x n) (a .needs) ts (a .behind) (past-streett (behindClose (a .behind)) (rw (a .holds .0)))
+      ; holds = (rw (a .holds .0), quiet-close (a .behind) (a .holds .1))
       }
 
 bare-fin-walk : (x : Single) (c u d n : ℕ) (w : Wants) (ns : List ℕ) (ts : List Token) → w .bare ≡ Bare.fin u → n < c
@@ -456,34 +496,34 @@ bare-fin-walk (Single.brackets x) c u d n w ns ts h l =
     ; holds = rw (a .holds)
     }
 
-bare-inf-walk : (x : Single) (c v d n : ℕ) (w : Wants) (ns : List ℕ) (ts : List Token) → w .bare ≡ Bare.inf v → n < c
-    → Arrives c (state d n ns (operand w)) (singleText x word-is.Inf n ts) d (suc n) ts (λ y ms. y .bare ≡ Bare.inf v)
+bare-inf-walk : (x : Single) (c v d n : ℕ) (w : Wants) (ns : List ℕ) (ts : List Token) → w .bare ≡ Bare.inf v × Plain w → n < c
+    → Arrives c (state d n ns (operand w)) (singleText x word-is.Inf n ts) d (suc n) ts (λ y ms. (y .bare ≡ Bare.inf v) × Quiet y)
 unfolding singleText
 bare-inf-walk Single.mark c v d n w ns ts h l =
     record
     { needs = needsInf (w .rabin) ns
     ; behind = wantsInf w
-    ; walk = inf-step c d n ns ts w l (past-bare (wantsInf w) (rw h))
-    ; holds = rw h
+    ; walk = inf-step c d n ns ts w l (past-bare (wantsInf w) (rw (h .0)))
+    ; holds = (rw (h .0), plain-inf w (h .1))
     }
 bare-inf-walk (Single.brackets x) c v d n w ns ts h l =
-    let a = bare-inf-walk x c (suc v) (suc d) n (wantsOpen w) ns (right ts) (rw h) l in
+    let a = bare-inf-walk x c (suc v) (suc d) n (wantsOpen w) ns (right ts) (rw (h .0), plain-open w (h .1)) l in
     record
     { needs = a .needs
     ; behind = behindClose (a .behind)
     ; walk =
-        open-step c d n ns (singleText x word-is.Inf n (right ts)) w (some-bare (wantsOpen w) (rw h))
+        open-step c d n ns (singleText x word-is.Inf n (right ts)) w (some-bare (wantsOpen w) (rw (h .0)))
         ∙ a .walk
-        ∙ close-step c d (suc n) (a .needs) ts (a .behind) (past-bare (behindClose (a .behind)) (rw (a .holds)))
-    ; holds = rw (a .holds)
+        ∙ close-step c d (suc n) (a .needs) ts (a .behind) (past-bare (behindClose (a .behind)) (rw (a .holds .0)))
+    ; holds = (rw (a .holds .0), quiet-close (a .behind) (a .holds .1))
     }
 
 bare-walk : (x : Spair) (c d n : ℕ) (w : Wants) (ns : List ℕ) (ts : List Token) → w .bare ≡ Bare.fin 0 → suc (suc n) ≤ c
-    → Arrives c (state d n ns (operand w)) (spairText x n ts) d (suc (suc n)) ts (λ y ms. y .bare ≡ Bare.inf 0)
+    → Arrives c (state d n ns (operand w)) (spairText x n ts) d (suc (suc n)) ts (λ y ms. (y .bare ≡ Bare.inf 0) × Quiet y)
 unfolding spairText
 bare-walk x c d n w ns ts h l =
     let a = bare-fin-walk (x .fin) c 0 d n w ns (either (singleText (x .inf) word-is.Inf (suc n) ts)) h (omega arith) in
-    let r = bare-inf-walk (x .inf) c 0 d (suc n) (behindOr (a .behind)) (a .needs) ts (rw (a .holds)) l in
+    let r = bare-inf-walk (x .inf) c 0 d (suc n) (behindOr (a .behind)) (a .needs) ts (rw (a .holds), or-plain (a .behind)) l in
     record
     { needs = r .needs
     ; behind = r .behind
@@ -533,3 +573,69 @@ truth-walk (Truth.brackets x) c d n e w ns ts h =
         ∙ close-step c d n (a .needs) ts (a .behind) (past-truth (behindClose (a .behind)) (rw (a .holds .0)))
     ; holds = (rw (a .holds .0), only-close (a .behind) (a .holds .1))
     }
+
+-- ---- std(c)
+
+-- the formula stands complete behind the text, with this meaning
+pub record Complete (c : ℕ) (ts : List Token) (m : FormulaMeaning) : Type 0 where
+  pub state : FormulaState
+  pub walk : freeWalk c (formulaBegin c) ts ≡ go state
+  pub stands : Stands c state m
+
+stand : (c n : ℕ) (s : FormulaState) (text : List Token) (m : FormulaMeaning) (Q : Behind → List ℕ → Type 0) (a : Arrives c s text 0 n [] Q)
+    → formulaBegin c ≡ s
+    → c ≤ n
+    → byDone c (a .needs) (a .behind) ≡ m
+    → Complete c text m
+unfolding freeWalk meaningOf
+stand c n s text m Q a b l e =
+    record
+    { state = state 0 n (a .needs) (after (a .behind))
+    ; walk = rw b (a .walk)
+    ; stands = record { behind = a .behind; stage = refl; outside = refl; means = rw (le-ltb n c l) e }
+    }
+
+begun : (c : ℕ) → formulaBegin c ≡ state 0 0 [] (operand (begin c))
+unfolding formulaBegin
+begun c = refl
+
+truth-done : (x : Truth) → truthDone (TruthBehind.is (truth-value x) 0) ≡ truthMeaning x
+unfolding truth-value truthMeaning
+truth-done Truth.truth = refl
+truth-done Truth.falsity = refl
+truth-done (Truth.brackets x) = truth-done x
+
+pub complete : (c : ℕ) (x : Std) → IsStd c x → Complete c (stdText x []) (stdMeaning c x)
+unfolding stdText stdMeaning
+complete c (Std.infs x) e =
+    let a = buchi-walk c x 0 0 0 (begin c) [] [] refl (omega arith) in
+    stand c (infsEnd x 0) _ _ _ _ a (begun c) (omega arith) (rw (a .holds))
+complete c (Std.rabin x) e =
+    let a = rabin-walk x c 0 0 0 0 (begin c) [] [] refl (omega arith) in
+    stand c (rabinEnd x 0) _ _ _ _ a (begun c) (omega arith) (rw (a .holds .2, rowed-done (a .behind .rabin) (a .holds .0), a .holds .1))
+complete c (Std.streett x) e =
+    let a = streett-walk x c 0 0 0 0 (begin c) [] [] (rw (eq-eqb (c % 2) 0 (e .1))) (omega (arith, e .0)) in
+    stand c (streettEnd x 0) _ _ _ _ a (begun c) (omega (arith, e .0)) (rw (a .holds .1 .0, a .holds .1 .1, a .holds .0))
+complete c (Std.spair x) e =
+    let a = bare-walk x c 0 0 (begin c) [] [] (rw (eq-eqb c 2 e)) (omega arith) in
+    stand c 2 _ _ _ _ a (begun c) (omega arith) (rw (a .holds .1 .0, a .holds .1 .1, a .holds .0) (bared (streettDone (a .behind .streett)) (truthDone (a .behind .truth))))
+  where
+    bared : (t : Bool) (m : FormulaMeaning) → cond (t || true) (standard (acceptance.Streett (c / 2)) noNeeds) m ≡ standard (acceptance.Streett (c / 2)) noNeeds
+    bared true m = refl
+    bared false m = refl
+complete c (Std.truth x) e =
+    let a = truth-walk x c 0 0 0 (begin c) [] [] (rw (eq-eqb c 0 e)) in
+    stand c 0 _ _ _ _ a (begun c) (omega arith) (rw (a .holds .1 .0, a .holds .1 .1, a .holds .1 .2, a .holds .1 .3, a .holds .0) (truth-done x))
+
+-- "No formula has two kinds": two formulas of the same text mean the same
+pub one-kind : (c : ℕ) (x y : Std) → IsStd c x → IsStd c y → stdText x [] ≡ stdText y [] → stdMeaning c x ≡ stdMeaning c y
+one-kind c x y p q e = same (complete c x p) (complete c y q)
+  where
+    after-same : {b d : Behind} → after b ≡ after d → b ≡ d
+    after-same e = cc
+    same : Complete c (stdText x []) (stdMeaning c x) → Complete c (stdText y []) (stdMeaning c y) → stdMeaning c x ≡ stdMeaning c y
+    same a b =
+        let s : go (a .state) ≡ go (b .state) = sym (a .walk) ∙ ap (freeWalk c (formulaBegin c)) e ∙ b .walk in
+        let t : a .state ≡ b .state = cc in
+        let g : a .stands .behind ≡ b .stands .behind = after-same (sym (a .stands .stage) ∙ ap (λ (z : FormulaState). z .stage) t ∙ b .stands .stage) in
+        sym (a .stands .means) ∙ ap (λ (z : FormulaState). meaningOf c (z .atoms) (z .needs) (a .stands .behind)) t ∙ ap (meaningOf c (b .state .atoms) (b .state .needs)) g ∙ b .stands .means

@@ -12,3 +12,5 @@ pub mod Keeping
 pub mod Readings
 -- Admitted: every formula of std(c) is admitted with its meaning
 pub mod Admitted
+-- Rests: what is admitted, and what is left
+pub mod Rests

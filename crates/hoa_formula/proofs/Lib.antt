@@ -14,3 +14,5 @@ pub mod Readings
 pub mod Admitted
 -- Rests: what is admitted, and what is left
 pub mod Rests
+-- Sound: what stands complete is a formula of std(c) with that meaning
+pub mod Sound

@@ -94,7 +94,7 @@ not-ends : {A : Type 0} (d : ℕ) (m : FormulaMeaning) (k : ℕ) (s : FormulaSta
 not-ends zero m k s e = not-over m s e
 not-ends (suc d) m k s e = not-wrong k s e
 
-go-is : {x s : FormulaState} → go x ≡ go s → x ≡ s
+pub go-is : {x s : FormulaState} → go x ≡ go s → x ≡ s
 go-is e = cc
 
 tested : (t : Bool) (x s : FormulaState) → cond t (go x) (wrong 41) ≡ go s → (t ≡ true) × (x ≡ s)

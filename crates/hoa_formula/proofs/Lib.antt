@@ -16,3 +16,5 @@ pub mod Admitted
 pub mod Rests
 -- Sound: what stands complete is a formula of std(c) with that meaning
 pub mod Sound
+-- Accepted: the run over a text's tokens, and the formulas of std(c)
+pub mod Accepted

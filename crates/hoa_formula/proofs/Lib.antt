@@ -18,3 +18,5 @@ pub mod Rests
 pub mod Sound
 -- Accepted: the run over a text's tokens, and the formulas of std(c)
 pub mod Accepted
+-- Conds: every standard formula is a condition of section 2
+pub mod Conds

@@ -20,3 +20,7 @@ pub mod Sound
 pub mod Accepted
 -- Conds: every standard formula is a condition of section 2
 pub mod Conds
+-- Examples: the rules' own examples, computed from the definitions
+pub mod Examples
+-- Unique: two answers for one text say the same
+pub mod Unique

@@ -136,6 +136,7 @@ module _ (c : ℕ) where
       many : (u : Bool) (x : FormulaState) → cond u (wrong 42) (go x) ≡ over m → go x ≡ over m
       many true x e = no-wrong 42 m e
       many false x e = e
+
       by : (x : FormulaStep) → limited x ≡ over m → x ≡ over m
       by (go x) e = many (tooMany (length (x .needs)) (x .stage)) x e
       by (over y) e = e
@@ -148,6 +149,7 @@ module _ (c : ℕ) where
       many : (u : Bool) (x : FormulaState) → cond u (wrong 42) (go x) ≡ go s' → go x ≡ go s'
       many true x e = absurd (let z : _≡_ {A = ℕ} 0 1 = cc in omega arith)
       many false x e = e
+
       by : (x : FormulaStep) → limited x ≡ go s' → x ≡ go s'
       by (go x) e = many (tooMany (length (x .needs)) (x .stage)) x e
       by (over y) e = e
@@ -177,12 +179,12 @@ module _ (c : ℕ) where
           → Over s (p ∷ ps) qs m
       by further (go s') q e =
           let r = further s' e in
-          record
-          { front = p ∷ r .front
-          ; split = ap (λ (xs : List Placed). p ∷ xs) (r .split)
-          ; state = r .state
-          ; walk = rw (limit-go s (p .token) s' q) (r .walk)
-          ; stands = r .stands
+          record {
+            front = p ∷ r .front;
+            split = ap (λ (xs : List Placed). p ∷ xs) (r .split);
+            state = r .state;
+            walk = rw (limit-go s (p .token) s' q) (r .walk);
+            stands = r .stands;
           }
       by further (over y) q e =
           let z : y ≡ m = cc in

@@ -126,6 +126,7 @@ record Arrives (c : ℕ) (s : FormulaState) (text : List Token) (d n : ℕ) (ts 
 
 mutual
   unfolding infsEnd infopEnd
+
   infs-more : (x : Infs) (n : ℕ) → n < infsEnd x n
   infs-more (Infs.one x) n = infop-more x n
   infs-more (Infs.more x y) n = omega (arith, infop-more x n, infs-more y (infopEnd x n))
@@ -142,6 +143,7 @@ module _ (c : ℕ) (PW : ℕ → ℕ → Wants → List ℕ → Type 0) (PB : �
     (b-and : (e k : ℕ) (b : Behind) (ns : List ℕ) → PB e k b ns → PW e k (behindAnd b) ns × (someWants (behindAnd b) ≡ true)) where
   mutual
     unfolding infsEnd infopEnd infsText infopText infsCount infopCount
+
     infs-walk : (x : Infs) (d n e k : ℕ) (w : Wants) (ns : List ℕ) (ts : List Token) → PW e k w ns → infsEnd x n ≤ c
         → Arrives c (state d n ns (operand w)) (infsText x n ts) d (infsEnd x n) ts (PB e (infsCount x k))
     infs-walk (Infs.one x) d n e k w ns ts h l = infop-walk x d n e k w ns ts h l
@@ -150,11 +152,11 @@ module _ (c : ℕ) (PW : ℕ → ℕ → Wants → List ℕ → Type 0) (PB : �
         let a = infop-walk x d n e k w ns (both (infsText y (infopEnd x n) ts)) h (omega arith) in
         let g = b-and e (infopCount x k) (a .behind) (a .needs) (a .holds) in
         let r = infs-walk y d (infopEnd x n) e (infopCount x k) (behindAnd (a .behind)) (a .needs) ts (g .0) l in
-        record
-        { needs = r .needs
-        ; behind = r .behind
-        ; walk = a .walk ∙ and-step c d (infopEnd x n) (a .needs) (infsText y (infopEnd x n) ts) (a .behind) (omega arith) (g .1) ∙ r .walk
-        ; holds = r .holds
+        record {
+          needs = r .needs;
+          behind = r .behind;
+          walk = a .walk ∙ and-step c d (infopEnd x n) (a .needs) (infsText y (infopEnd x n) ts) (a .behind) (omega arith) (g .1) ∙ r .walk;
+          holds = r .holds;
         }
 
     infop-walk : (x : Infop) (d n e k : ℕ) (w : Wants) (ns : List ℕ) (ts : List Token) → PW e k w ns → infopEnd x n ≤ c
@@ -166,11 +168,11 @@ module _ (c : ℕ) (PW : ℕ → ℕ → Wants → List ℕ → Type 0) (PB : �
         let g = w-open e k w ns h in
         let a = infs-walk x (suc d) n (suc e) k (wantsOpen w) ns (right ts) (g .0) l in
         let q = b-close e (infsCount x k) (a .behind) (a .needs) (a .holds) in
-        record
-        { needs = a .needs
-        ; behind = behindClose (a .behind)
-        ; walk = open-step c d n ns (infsText x n (right ts)) w (g .1) ∙ a .walk ∙ close-step c d (infsEnd x n) (a .needs) ts (a .behind) (q .1)
-        ; holds = q .0
+        record {
+          needs = a .needs;
+          behind = behindClose (a .behind);
+          walk = open-step c d n ns (infsText x n (right ts)) w (g .1) ∙ a .walk ∙ close-step c d (infsEnd x n) (a .needs) ts (a .behind) (q .1);
+          holds = q .0;
         }
 
 -- infs as a Büchi formula
@@ -203,6 +205,7 @@ needs-walk c m b ms x d n k w ns ts h l =
 
 mutual
   unfolding pairEnd pheadEnd
+
   pair-more : (x : Pair) (n : ℕ) → n < pairEnd x n
   pair-more (Pair.alone x) n = phead-more x n
   pair-more (Pair.needing x y) n = omega (arith, phead-more x n, infs-more y (pheadEnd x n))
@@ -213,6 +216,7 @@ mutual
 
 mutual
   unfolding pairEnd pheadEnd pairText pheadText pairNeed pheadNeed
+
   pair-walk : (x : Pair) (c m b d n : ℕ) (w : Wants) (ns : List ℕ) (ts : List Token) → w .rabin ≡ RabinWants.fin m b → pairEnd x n ≤ c
       → Arrives c (state d n ns (operand w)) (pairText x n ts) d (pairEnd x n) ts (λ y ms. y .rabin ≡ RabinBehind.pair m b 0 × (ms ≡ pairNeed x ∷ ns) × (y .buchi ≡ Buchi.lost))
   pair-walk (Pair.alone x) c m b d n w ns ts h l = phead-walk x c m b d n w ns ts h l
@@ -220,36 +224,36 @@ mutual
       let z = infs-more y (pheadEnd x n) in
       let a = phead-walk x c m b d n w ns (both (infsText y (pheadEnd x n) ts)) h (omega arith) in
       let r =
-          needs-walk c m b ns y d (pheadEnd x n) (pheadNeed x) (behindAnd (a .behind)) (a .needs) ts (rw (a .holds .0), a .holds .1, a .holds .2) l in
-      record
-      { needs = r .needs
-      ; behind = r .behind
-      ; walk =
-          a .walk
-          ∙ and-step c d (pheadEnd x n) (a .needs) (infsText y (pheadEnd x n) ts) (a .behind) (omega arith) (some-rabin (behindAnd (a .behind)) (rw (a .holds .0)))
-          ∙ r .walk
-      ; holds = r .holds
+      needs-walk c m b ns y d (pheadEnd x n) (pheadNeed x) (behindAnd (a .behind)) (a .needs) ts (rw (a .holds .0), a .holds .1, a .holds .2) l in
+      record {
+        needs = r .needs;
+        behind = r .behind;
+        walk =
+            a .walk
+            ∙ and-step c d (pheadEnd x n) (a .needs) (infsText y (pheadEnd x n) ts) (a .behind) (omega arith) (some-rabin (behindAnd (a .behind)) (rw (a .holds .0)))
+            ∙ r .walk;
+        holds = r .holds;
       }
 
   phead-walk : (x : Phead) (c m b d n : ℕ) (w : Wants) (ns : List ℕ) (ts : List Token) → w .rabin ≡ RabinWants.fin m b → pheadEnd x n ≤ c
       → Arrives c (state d n ns (operand w)) (pheadText x n ts) d (pheadEnd x n) ts (λ y ms. y .rabin ≡ RabinBehind.pair m b 0 × (ms ≡ pheadNeed x ∷ ns) × (y .buchi ≡ Buchi.lost))
   phead-walk Phead.mark c m b d n w ns ts h l =
-      record
-      { needs = needsFin (w .rabin) ns
-      ; behind = wantsFin w
-      ; walk = fin-step c d n ns ts w l (past-rabin (wantsFin w) (rw h))
-      ; holds = (rw h, rw h, refl)
+      record {
+        needs = needsFin (w .rabin) ns;
+        behind = wantsFin w;
+        walk = fin-step c d n ns ts w l (past-rabin (wantsFin w) (rw h));
+        holds = (rw h, rw h, refl);
       }
   phead-walk (Phead.brackets x) c m b d n w ns ts h l =
       let a = pair-walk x c (suc m) (suc b) (suc d) n (wantsOpen w) ns (right ts) (rw h) l in
-      record
-      { needs = a .needs
-      ; behind = behindClose (a .behind)
-      ; walk =
-          open-step c d n ns (pairText x n (right ts)) w (some-rabin (wantsOpen w) (rw h))
-          ∙ a .walk
-          ∙ close-step c d (pairEnd x n) (a .needs) ts (a .behind) (past-rabin (behindClose (a .behind)) (rw (a .holds .0)))
-      ; holds = (rw (a .holds .0), a .holds .1, rw (a .holds .2))
+      record {
+        needs = a .needs;
+        behind = behindClose (a .behind);
+        walk =
+            open-step c d n ns (pairText x n (right ts)) w (some-rabin (wantsOpen w) (rw h))
+            ∙ a .walk
+            ∙ close-step c d (pairEnd x n) (a .needs) ts (a .behind) (past-rabin (behindClose (a .behind)) (rw (a .holds .0)));
+        holds = (rw (a .holds .0), a .holds .1, rw (a .holds .2));
       }
 
 -- behind a row of pairs in m brackets
@@ -272,6 +276,7 @@ rowed-done r grouped = refl
 
 mutual
   unfolding rabinEnd rabopEnd
+
   rabin-more : (x : Rabin) (n : ℕ) → n < rabinEnd x n
   rabin-more (Rabin.one x) n = rabop-more x n
   rabin-more (Rabin.more x y) n = omega (arith, rabop-more x n, rabin-more y (rabopEnd x n))
@@ -282,6 +287,7 @@ mutual
 
 mutual
   unfolding rabinEnd rabopEnd rabinText rabopText rabinNeeds rabopNeeds
+
   rabin-walk : (x : Rabin) (c m b d n : ℕ) (w : Wants) (ns : List ℕ) (ts : List Token) → w .rabin ≡ RabinWants.fin m b → rabinEnd x n ≤ c
       → Arrives c (state d n ns (operand w)) (rabinText x n ts) d (rabinEnd x n) ts (λ y ms. Rowed m (y .rabin) × (ms ≡ rabinNeeds x ns) × (y .buchi ≡ Buchi.lost))
   rabin-walk (Rabin.one x) c m b d n w ns ts h l = rabop-walk x c m b d n w ns ts h l
@@ -290,14 +296,14 @@ mutual
       let a = rabop-walk x c m b d n w ns (either (rabinText y (rabopEnd x n) ts)) h (omega arith) in
       let g = rowed-or m (a .behind .rabin) (a .holds .0) in
       let r = rabin-walk y c m 0 d (rabopEnd x n) (behindOr (a .behind)) (a .needs) ts g l in
-      record
-      { needs = r .needs
-      ; behind = r .behind
-      ; walk =
-          a .walk
-          ∙ or-step c d (rabopEnd x n) (a .needs) (rabinText y (rabopEnd x n) ts) (a .behind) (omega arith) (some-rabin (behindOr (a .behind)) (rw g))
-          ∙ r .walk
-      ; holds = (r .holds .0, r .holds .1 ∙ ap (rabinNeeds y) (a .holds .1), r .holds .2)
+      record {
+        needs = r .needs;
+        behind = r .behind;
+        walk =
+            a .walk
+            ∙ or-step c d (rabopEnd x n) (a .needs) (rabinText y (rabopEnd x n) ts) (a .behind) (omega arith) (some-rabin (behindOr (a .behind)) (rw g))
+            ∙ r .walk;
+        holds = (r .holds .0, r .holds .1 ∙ ap (rabinNeeds y) (a .holds .1), r .holds .2);
       }
 
   rabop-walk : (x : Rabop) (c m b d n : ℕ) (w : Wants) (ns : List ℕ) (ts : List Token) → w .rabin ≡ RabinWants.fin m b → rabopEnd x n ≤ c
@@ -308,14 +314,14 @@ mutual
   rabop-walk (Rabop.brackets x) c m b d n w ns ts h l =
       let a = rabin-walk x c (suc m) (suc b) (suc d) n (wantsOpen w) ns (right ts) (rw h) l in
       let g = rowed-close m (a .behind .rabin) (a .holds .0) in
-      record
-      { needs = a .needs
-      ; behind = behindClose (a .behind)
-      ; walk =
-          open-step c d n ns (rabinText x n (right ts)) w (some-rabin (wantsOpen w) (rw h))
-          ∙ a .walk
-          ∙ close-step c d (rabinEnd x n) (a .needs) ts (a .behind) (past-rabin (behindClose (a .behind)) (g .1))
-      ; holds = (g .0, a .holds .1, rw (a .holds .2))
+      record {
+        needs = a .needs;
+        behind = behindClose (a .behind);
+        walk =
+            open-step c d n ns (rabinText x n (right ts)) w (some-rabin (wantsOpen w) (rw h))
+            ∙ a .walk
+            ∙ close-step c d (rabinEnd x n) (a .needs) ts (a .behind) (past-rabin (behindClose (a .behind)) (g .1));
+        holds = (g .0, a .holds .1, rw (a .holds .2));
       }
 
 -- ---- Streett, and the bare pair
@@ -362,22 +368,22 @@ streett-fin-walk : (x : Single) (c m u d n : ℕ) (w : Wants) (ns : List ℕ) (t
     → Arrives c (state d n ns (operand w)) (singleText x word-is.Fin n ts) d (suc n) ts (λ y ms. y .streett ≡ StreettBehind.fin m u)
 unfolding singleText
 streett-fin-walk Single.mark c m u d n w ns ts h l =
-    record
-    { needs = needsFin (w .rabin) ns
-    ; behind = wantsFin w
-    ; walk = fin-step c d n ns ts w l (past-streett (wantsFin w) (rw h))
-    ; holds = rw h
+    record {
+      needs = needsFin (w .rabin) ns;
+      behind = wantsFin w;
+      walk = fin-step c d n ns ts w l (past-streett (wantsFin w) (rw h));
+      holds = rw h;
     }
 streett-fin-walk (Single.brackets x) c m u d n w ns ts h l =
     let a = streett-fin-walk x c (suc m) (suc u) (suc d) n (wantsOpen w) ns (right ts) (rw h) l in
-    record
-    { needs = a .needs
-    ; behind = behindClose (a .behind)
-    ; walk =
-        open-step c d n ns (singleText x word-is.Fin n (right ts)) w (some-streett (wantsOpen w) (rw h))
-        ∙ a .walk
-        ∙ close-step c d (suc n) (a .needs) ts (a .behind) (past-streett (behindClose (a .behind)) (rw (a .holds)))
-    ; holds = rw (a .holds)
+    record {
+      needs = a .needs;
+      behind = behindClose (a .behind);
+      walk =
+          open-step c d n ns (singleText x word-is.Fin n (right ts)) w (some-streett (wantsOpen w) (rw h))
+          ∙ a .walk
+          ∙ close-step c d (suc n) (a .needs) ts (a .behind) (past-streett (behindClose (a .behind)) (rw (a .holds)));
+      holds = rw (a .holds);
     }
 
 -- inf(i) behind it
@@ -385,22 +391,22 @@ streett-inf-walk : (x : Single) (c m v d n : ℕ) (w : Wants) (ns : List ℕ) (t
     → Arrives c (state d n ns (operand w)) (singleText x word-is.Inf n ts) d (suc n) ts (λ y ms. (y .streett ≡ StreettBehind.inf m v) × Quiet y)
 unfolding singleText
 streett-inf-walk Single.mark c m v d n w ns ts h l =
-    record
-    { needs = needsInf (w .rabin) ns
-    ; behind = wantsInf w
-    ; walk = inf-step c d n ns ts w l (past-streett (wantsInf w) (rw (h .0)))
-    ; holds = (rw (h .0), plain-inf w (h .1))
+    record {
+      needs = needsInf (w .rabin) ns;
+      behind = wantsInf w;
+      walk = inf-step c d n ns ts w l (past-streett (wantsInf w) (rw (h .0)));
+      holds = (rw (h .0), plain-inf w (h .1));
     }
 streett-inf-walk (Single.brackets x) c m v d n w ns ts h l =
     let a = streett-inf-walk x c m (suc v) (suc d) n (wantsOpen w) ns (right ts) (rw (h .0), plain-open w (h .1)) l in
-    record
-    { needs = a .needs
-    ; behind = behindClose (a .behind)
-    ; walk =
-        open-step c d n ns (singleText x word-is.Inf n (right ts)) w (some-streett (wantsOpen w) (rw (h .0)))
-        ∙ a .walk
-        ∙ close-step c d (suc n) (a .needs) ts (a .behind) (past-streett (behindClose (a .behind)) (rw (a .holds .0)))
-    ; holds = (rw (a .holds .0), quiet-close (a .behind) (a .holds .1))
+    record {
+      needs = a .needs;
+      behind = behindClose (a .behind);
+      walk =
+          open-step c d n ns (singleText x word-is.Inf n (right ts)) w (some-streett (wantsOpen w) (rw (h .0)))
+          ∙ a .walk
+          ∙ close-step c d (suc n) (a .needs) ts (a .behind) (past-streett (behindClose (a .behind)) (rw (a .holds .0)));
+      holds = (rw (a .holds .0), quiet-close (a .behind) (a .holds .1));
     }
 
 -- spair(i) in its bracket
@@ -410,18 +416,19 @@ unfolding spairText
 streett-pair-walk x c m u d n w ns ts h l =
     let a = streett-fin-walk (x .fin) c m u d n w ns (either (singleText (x .inf) word-is.Inf (suc n) ts)) h (omega arith) in
     let r = streett-inf-walk (x .inf) c m 0 d (suc n) (behindOr (a .behind)) (a .needs) ts (rw (a .holds), or-plain (a .behind)) l in
-    record
-    { needs = r .needs
-    ; behind = r .behind
-    ; walk =
-        a .walk
-        ∙ or-step c d (suc n) (a .needs) (singleText (x .inf) word-is.Inf (suc n) ts) (a .behind) l (some-streett (behindOr (a .behind)) (rw (a .holds)))
-        ∙ r .walk
-    ; holds = r .holds
+    record {
+      needs = r .needs;
+      behind = r .behind;
+      walk =
+          a .walk
+          ∙ or-step c d (suc n) (a .needs) (singleText (x .inf) word-is.Inf (suc n) ts) (a .behind) l (some-streett (behindOr (a .behind)) (rw (a .holds)))
+          ∙ r .walk;
+      holds = r .holds;
     }
 
 mutual
   unfolding streettEnd stropEnd
+
   streett-more : (x : Streett) (n : ℕ) → n < streettEnd x n
   streett-more (Streett.one x) n = strop-more x n
   streett-more (Streett.more x y) n = omega (arith, strop-more x n, streett-more y (stropEnd x n))
@@ -432,6 +439,7 @@ mutual
 
 mutual
   unfolding streettEnd stropEnd streettText stropText
+
   streett-walk : (x : Streett) (c m u d n : ℕ) (w : Wants) (ns : List ℕ) (ts : List Token) → w .streett ≡ StreettWants.fin m u → streettEnd x n ≤ c
       → Arrives c (state d n ns (operand w)) (streettText x n ts) d (streettEnd x n) ts (λ y ms. (y .streett ≡ StreettBehind.pair m) × Quiet y)
   streett-walk (Streett.one x) c m u d n w ns ts h l = strop-walk x c m u d n w ns ts h l
@@ -439,83 +447,83 @@ mutual
       let z = streett-more y (stropEnd x n) in
       let a = strop-walk x c m u d n w ns (both (streettText y (stropEnd x n) ts)) h (omega arith) in
       let r = streett-walk y c m 0 d (stropEnd x n) (behindAnd (a .behind)) (a .needs) ts (rw (a .holds .0)) l in
-      record
-      { needs = r .needs
-      ; behind = r .behind
-      ; walk =
-          a .walk
-          ∙ and-step c d (stropEnd x n) (a .needs) (streettText y (stropEnd x n) ts) (a .behind) (omega arith) (some-streett (behindAnd (a .behind)) (rw (a .holds .0)))
-          ∙ r .walk
-      ; holds = r .holds
+      record {
+        needs = r .needs;
+        behind = r .behind;
+        walk =
+            a .walk
+            ∙ and-step c d (stropEnd x n) (a .needs) (streettText y (stropEnd x n) ts) (a .behind) (omega arith) (some-streett (behindAnd (a .behind)) (rw (a .holds .0)))
+            ∙ r .walk;
+        holds = r .holds;
       }
 
   strop-walk : (x : Strop) (c m u d n : ℕ) (w : Wants) (ns : List ℕ) (ts : List Token) → w .streett ≡ StreettWants.fin m u → stropEnd x n ≤ c
       → Arrives c (state d n ns (operand w)) (stropText x n ts) d (stropEnd x n) ts (λ y ms. (y .streett ≡ StreettBehind.pair m) × Quiet y)
   strop-walk (Strop.pair x) c m u d n w ns ts h l =
       let a = streett-pair-walk x c m u (suc d) n (wantsOpen w) ns (right ts) (rw h) l in
-      record
-      { needs = a .needs
-      ; behind = behindClose (a .behind)
-      ; walk =
-          open-step c d n ns (spairText x n (right ts)) w (some-streett (wantsOpen w) (rw h))
-          ∙ a .walk
-          ∙ close-step c d (suc (suc n)) (a .needs) ts (a .behind) (past-streett (behindClose (a .behind)) (rw (a .holds .0)))
-      ; holds = (rw (a .holds .0), quiet-close (a .behind) (a .holds .1))
+      record {
+        needs = a .needs;
+        behind = behindClose (a .behind);
+        walk =
+            open-step c d n ns (spairText x n (right ts)) w (some-streett (wantsOpen w) (rw h))
+            ∙ a .walk
+            ∙ close-step c d (suc (suc n)) (a .needs) ts (a .behind) (past-streett (behindClose (a .behind)) (rw (a .holds .0)));
+        holds = (rw (a .holds .0), quiet-close (a .behind) (a .holds .1));
       }
   strop-walk (Strop.brackets x) c m u d n w ns ts h l =
       let a = streett-walk x c (suc m) (suc u) (suc d) n (wantsOpen w) ns (right ts) (rw h) l in
-      record
-      { needs = a .needs
-      ; behind = behindClose (a .behind)
-      ; walk =
-          open-step c d n ns (streettText x n (right ts)) w (some-streett (wantsOpen w) (rw h))
-          ∙ a .walk
-          ∙ close-step c d (streettEnd x n) (a .needs) ts (a .behind) (past-streett (behindClose (a .behind)) (rw (a .holds .0)))
-      ; holds = (rw (a .holds .0), quiet-close (a .behind) (a .holds .1))
+      record {
+        needs = a .needs;
+        behind = behindClose (a .behind);
+        walk =
+            open-step c d n ns (streettText x n (right ts)) w (some-streett (wantsOpen w) (rw h))
+            ∙ a .walk
+            ∙ close-step c d (streettEnd x n) (a .needs) ts (a .behind) (past-streett (behindClose (a .behind)) (rw (a .holds .0)));
+        holds = (rw (a .holds .0), quiet-close (a .behind) (a .holds .1));
       }
 
 bare-fin-walk : (x : Single) (c u d n : ℕ) (w : Wants) (ns : List ℕ) (ts : List Token) → w .bare ≡ Bare.fin u → n < c
     → Arrives c (state d n ns (operand w)) (singleText x word-is.Fin n ts) d (suc n) ts (λ y ms. y .bare ≡ Bare.fin u)
 unfolding singleText
 bare-fin-walk Single.mark c u d n w ns ts h l =
-    record
-    { needs = needsFin (w .rabin) ns
-    ; behind = wantsFin w
-    ; walk = fin-step c d n ns ts w l (past-bare (wantsFin w) (rw h))
-    ; holds = rw h
+    record {
+      needs = needsFin (w .rabin) ns;
+      behind = wantsFin w;
+      walk = fin-step c d n ns ts w l (past-bare (wantsFin w) (rw h));
+      holds = rw h;
     }
 bare-fin-walk (Single.brackets x) c u d n w ns ts h l =
     let a = bare-fin-walk x c (suc u) (suc d) n (wantsOpen w) ns (right ts) (rw h) l in
-    record
-    { needs = a .needs
-    ; behind = behindClose (a .behind)
-    ; walk =
-        open-step c d n ns (singleText x word-is.Fin n (right ts)) w (some-bare (wantsOpen w) (rw h))
-        ∙ a .walk
-        ∙ close-step c d (suc n) (a .needs) ts (a .behind) (past-bare (behindClose (a .behind)) (rw (a .holds)))
-    ; holds = rw (a .holds)
+    record {
+      needs = a .needs;
+      behind = behindClose (a .behind);
+      walk =
+          open-step c d n ns (singleText x word-is.Fin n (right ts)) w (some-bare (wantsOpen w) (rw h))
+          ∙ a .walk
+          ∙ close-step c d (suc n) (a .needs) ts (a .behind) (past-bare (behindClose (a .behind)) (rw (a .holds)));
+      holds = rw (a .holds);
     }
 
 bare-inf-walk : (x : Single) (c v d n : ℕ) (w : Wants) (ns : List ℕ) (ts : List Token) → w .bare ≡ Bare.inf v × Plain w → n < c
     → Arrives c (state d n ns (operand w)) (singleText x word-is.Inf n ts) d (suc n) ts (λ y ms. (y .bare ≡ Bare.inf v) × Quiet y)
 unfolding singleText
 bare-inf-walk Single.mark c v d n w ns ts h l =
-    record
-    { needs = needsInf (w .rabin) ns
-    ; behind = wantsInf w
-    ; walk = inf-step c d n ns ts w l (past-bare (wantsInf w) (rw (h .0)))
-    ; holds = (rw (h .0), plain-inf w (h .1))
+    record {
+      needs = needsInf (w .rabin) ns;
+      behind = wantsInf w;
+      walk = inf-step c d n ns ts w l (past-bare (wantsInf w) (rw (h .0)));
+      holds = (rw (h .0), plain-inf w (h .1));
     }
 bare-inf-walk (Single.brackets x) c v d n w ns ts h l =
     let a = bare-inf-walk x c (suc v) (suc d) n (wantsOpen w) ns (right ts) (rw (h .0), plain-open w (h .1)) l in
-    record
-    { needs = a .needs
-    ; behind = behindClose (a .behind)
-    ; walk =
-        open-step c d n ns (singleText x word-is.Inf n (right ts)) w (some-bare (wantsOpen w) (rw (h .0)))
-        ∙ a .walk
-        ∙ close-step c d (suc n) (a .needs) ts (a .behind) (past-bare (behindClose (a .behind)) (rw (a .holds .0)))
-    ; holds = (rw (a .holds .0), quiet-close (a .behind) (a .holds .1))
+    record {
+      needs = a .needs;
+      behind = behindClose (a .behind);
+      walk =
+          open-step c d n ns (singleText x word-is.Inf n (right ts)) w (some-bare (wantsOpen w) (rw (h .0)))
+          ∙ a .walk
+          ∙ close-step c d (suc n) (a .needs) ts (a .behind) (past-bare (behindClose (a .behind)) (rw (a .holds .0)));
+      holds = (rw (a .holds .0), quiet-close (a .behind) (a .holds .1));
     }
 
 bare-walk : (x : Spair) (c d n : ℕ) (w : Wants) (ns : List ℕ) (ts : List Token) → w .bare ≡ Bare.fin 0 → suc (suc n) ≤ c
@@ -524,14 +532,14 @@ unfolding spairText
 bare-walk x c d n w ns ts h l =
     let a = bare-fin-walk (x .fin) c 0 d n w ns (either (singleText (x .inf) word-is.Inf (suc n) ts)) h (omega arith) in
     let r = bare-inf-walk (x .inf) c 0 d (suc n) (behindOr (a .behind)) (a .needs) ts (rw (a .holds), or-plain (a .behind)) l in
-    record
-    { needs = r .needs
-    ; behind = r .behind
-    ; walk =
-        a .walk
-        ∙ or-step c d (suc n) (a .needs) (singleText (x .inf) word-is.Inf (suc n) ts) (a .behind) l (some-bare (behindOr (a .behind)) (rw (a .holds)))
-        ∙ r .walk
-    ; holds = r .holds
+    record {
+      needs = r .needs;
+      behind = r .behind;
+      walk =
+          a .walk
+          ∙ or-step c d (suc n) (a .needs) (singleText (x .inf) word-is.Inf (suc n) ts) (a .behind) l (some-bare (behindOr (a .behind)) (rw (a .holds)))
+          ∙ r .walk;
+      holds = r .holds;
     }
 
 -- ---- truth values
@@ -564,14 +572,14 @@ truth-walk Truth.falsity c d n e w ns ts h =
     record { needs = ns; behind = wantsTruth false w; walk = truth-step c d n ns ts w e false word-is.False refl h; holds = (rw h, (refl, refl, refl, refl)) }
 truth-walk (Truth.brackets x) c d n e w ns ts h =
     let a = truth-walk x c (suc d) n (suc e) (wantsOpen w) ns (right ts) (rw h) in
-    record
-    { needs = a .needs
-    ; behind = behindClose (a .behind)
-    ; walk =
-        open-step c d n ns (truthText x (right ts)) w (some-truth (wantsOpen w) (rw h))
-        ∙ a .walk
-        ∙ close-step c d n (a .needs) ts (a .behind) (past-truth (behindClose (a .behind)) (rw (a .holds .0)))
-    ; holds = (rw (a .holds .0), only-close (a .behind) (a .holds .1))
+    record {
+      needs = a .needs;
+      behind = behindClose (a .behind);
+      walk =
+          open-step c d n ns (truthText x (right ts)) w (some-truth (wantsOpen w) (rw h))
+          ∙ a .walk
+          ∙ close-step c d n (a .needs) ts (a .behind) (past-truth (behindClose (a .behind)) (rw (a .holds .0)));
+      holds = (rw (a .holds .0), only-close (a .behind) (a .holds .1));
     }
 
 -- ---- std(c)
@@ -589,10 +597,10 @@ stand : (c n : ℕ) (s : FormulaState) (text : List Token) (m : FormulaMeaning) 
     → Complete c text m
 unfolding freeWalk meaningOf
 stand c n s text m Q a b l e =
-    record
-    { state = state 0 n (a .needs) (after (a .behind))
-    ; walk = rw b (a .walk)
-    ; stands = record { behind = a .behind; stage = refl; outside = refl; means = rw (le-ltb n c l) e }
+    record {
+      state = state 0 n (a .needs) (after (a .behind));
+      walk = rw b (a .walk);
+      stands = record { behind = a .behind; stage = refl; outside = refl; means = rw (le-ltb n c l) e };
     }
 
 begun : (c : ℕ) → formulaBegin c ≡ state 0 0 [] (operand (begin c))
@@ -633,6 +641,7 @@ one-kind c x y p q e = same (complete c x p) (complete c y q)
   where
     after-same : {b d : Behind} → after b ≡ after d → b ≡ d
     after-same e = cc
+
     same : Complete c (stdText x []) (stdMeaning c x) → Complete c (stdText y []) (stdMeaning c y) → stdMeaning c x ≡ stdMeaning c y
     same a b =
         let s : go (a .state) ≡ go (b .state) = sym (a .walk) ∙ ap (freeWalk c (formulaBegin c)) e ∙ b .walk in

@@ -28,6 +28,7 @@ mutual
 
 mutual
   unfolding infsConj infopAtom infMark infsText infopText condText cconjText catomText
+
   infs-cond : (x : Infs) (i : ℕ) (ts : List Token) → cconjText (infsConj x i) ts ≡ infsText x i ts
   infs-cond (Infs.one x) i ts = infop-cond x i ts
   infs-cond (Infs.more x y) i ts = infop-cond x i (both (cconjText (infsConj y (infopEnd x i)) ts)) ∙ ap (λ (us : List Token). infopText x i (both us)) (infs-cond y (infopEnd x i) ts)
@@ -47,6 +48,7 @@ mutual
 
 mutual
   unfolding pairConj pheadAtom finMark pairText pheadText condText cconjText catomText
+
   pair-cond : (x : Pair) (i : ℕ) (ts : List Token) → cconjText (pairConj x i) ts ≡ pairText x i ts
   pair-cond (Pair.alone x) i ts = phead-cond x i ts
   pair-cond (Pair.needing x y) i ts = phead-cond x i (both (cconjText (infsConj y (pheadEnd x i)) ts)) ∙ ap (λ (us : List Token). pheadText x i (both us)) (infs-cond y (pheadEnd x i) ts)
@@ -66,6 +68,7 @@ mutual
 
 mutual
   unfolding rabinCond rabopConj rabinText rabopText condText cconjText catomText
+
   rabin-cond : (x : Rabin) (i : ℕ) (ts : List Token) → condText (rabinCond x i) ts ≡ rabinText x i ts
   rabin-cond (Rabin.one x) i ts = rabop-cond x i ts
   rabin-cond (Rabin.more x y) i ts = rabop-cond x i (either (condText (rabinCond y (rabopEnd x i)) ts)) ∙ ap (λ (us : List Token). rabopText x i (either us)) (rabin-cond y (rabopEnd x i) ts)
@@ -112,6 +115,7 @@ mutual
 
 mutual
   unfolding streettConj stropAtom streettText stropText condText cconjText catomText
+
   streett-cond : (x : Streett) (i : ℕ) (ts : List Token) → cconjText (streettConj x i) ts ≡ streettText x i ts
   streett-cond (Streett.one x) i ts = strop-cond x i ts
   streett-cond (Streett.more x y) i ts = strop-cond x i (both (cconjText (streettConj y (stropEnd x i)) ts)) ∙ ap (λ (us : List Token). stropText x i (both us)) (streett-cond y (stropEnd x i) ts)

@@ -63,24 +63,24 @@ record Examples : Type 0 where
 examples : Examples
 unfolding tokensAt stream.some first gapOf isBlank front isDigit isCapital isLetter isName run number isInt spelt named wordOf headerOf furtherHeader quoted at fixed signOf bytes same pieceOf meaningOf eightNeeds formulaBegin freeStep formulaStep formulaRun
 examples =
-    record
-    { inf-or = refl
-    ; or-in-need = refl
-    ; mark-out-of-order = refl
-    ; negated = refl
-    ; not-in-front = refl
-    ; other-word = refl
-    ; no-streett = refl
-    ; fin-alone = refl
-    ; fin-inf = refl
-    ; bare-pair = refl
-    ; streett = refl
-    ; rabin = refl
-    ; truth = refl
-    ; falsity = refl
-    ; too-few = refl
-    ; ninth-pair = refl
-    ; no-ninth-atom = refl
-    ; open-end = refl
-    ; aborted = refl
+    record {
+      inf-or = refl;
+      or-in-need = refl;
+      mark-out-of-order = refl;
+      negated = refl;
+      not-in-front = refl;
+      other-word = refl;
+      no-streett = refl;
+      fin-alone = refl;
+      fin-inf = refl;
+      bare-pair = refl;
+      streett = refl;
+      rabin = refl;
+      truth = refl;
+      falsity = refl;
+      too-few = refl;
+      ninth-pair = refl;
+      no-ninth-atom = refl;
+      open-end = refl;
+      aborted = refl;
     }

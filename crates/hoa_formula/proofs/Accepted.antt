@@ -14,8 +14,10 @@ use Rattle.hoa_formula.specs.declared.machine.Piece.{Piece}
 use Rattle.hoa_formula.specs.declared.machine.Piece.the-variants as piece-is
 use Rattle.hoa_formula.specs.Standard.{FormulaMeaning, standard, short, stdText, stdMeaning}
 use Rattle.hoa_formula.specs.Machines.{Wants, Behind, wantsOpen, wantsInf, wantsFin, wantsTruth, behindClose, behindAnd, behindOr, someWants, someBehind}
-use Rattle.hoa_formula.specs.Formulas.{FormulaState, FormulaStep, go, over, wrong, FormulaEnd, overAt, wrongAt, cut, state, Stage, operand, named, bracket, number, after, pieceOf, needsInf, needsFin, meaningOf}
-use Rattle.hoa_formula.specs.Formulas.{goWants, goNamed, goAfter, ends, closes, onOperand, onNamed, onBracket, onNumber, onAfter, onStage, freeStep, tooMany, limited, formulaStep, formulaBegin, onward, formulaRun}
+use Rattle.hoa_formula.specs.Formulas.{FormulaState, FormulaStep, go, over, wrong, FormulaEnd, overAt, wrongAt, cut, state, Stage, operand, named, bracket, number, after}
+use Rattle.hoa_formula.specs.Formulas.{pieceOf, needsInf, needsFin, meaningOf}
+use Rattle.hoa_formula.specs.Formulas.{goWants, goNamed, goAfter, ends, closes, onOperand, onNamed, onBracket, onNumber, onAfter, onStage, freeStep, tooMany, limited}
+use Rattle.hoa_formula.specs.Formulas.{formulaStep, formulaBegin, onward, formulaRun}
 use Rattle.hoa_formula.specs.Walking.{andOn, freeWalk, Stands, Begins}
 use Rattle.hoa_formula.proofs.Admitted.{complete}
 use Rattle.hoa_formula.proofs.Sound.{IsFormula, sound}
@@ -205,7 +207,8 @@ module _ (c : ℕ) where
   walk-begins [] us s f e = (s, refl)
   walk-begins (t ∷ ts) us s f e = by (λ s'. walk-begins ts us s' f) (freeStep c s t) e
     where
-      by : ((s' : FormulaState) → freeWalk c s' (ts ++ us) ≡ go f → (x : FormulaState) × (freeWalk c s' ts ≡ go x)) → (x : FormulaStep) → andOn x (λ s'. freeWalk c s' (ts ++ us)) ≡ go f → (s' : FormulaState) × (andOn x (λ s'. freeWalk c s' ts) ≡ go s')
+      by : ((s' : FormulaState) → freeWalk c s' (ts ++ us) ≡ go f → (x : FormulaState) × (freeWalk c s' ts ≡ go x))
+          → (x : FormulaStep) → andOn x (λ s'. freeWalk c s' (ts ++ us)) ≡ go f → (s' : FormulaState) × (andOn x (λ s'. freeWalk c s' ts) ≡ go s')
       by further (go s') e = further s' e
       by further (over m) e = absurd (let z : _≡_ {A = ℕ} 0 1 = cc in omega arith)
       by further (wrong k) e = absurd (let z : _≡_ {A = ℕ} 0 1 = cc in omega arith)

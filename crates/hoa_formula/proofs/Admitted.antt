@@ -14,14 +14,18 @@ use Rattle.hoa_tokens.specs.Token.{Token}
 use Rattle.table.specs.declared.Acceptance.the-variants as acceptance
 use Rattle.hoa_formula.specs.declared.machine.Piece.{Piece}
 use Rattle.hoa_formula.specs.declared.machine.Piece.the-variants as piece-is
-use Rattle.hoa_formula.specs.Standard.{left, right, both, either, atom, Infs, Infop, infsEnd, infopEnd, infsText, infopText, infsCount, infopCount, FormulaMeaning, standard, short}
-use Rattle.hoa_formula.specs.Standard.{Pair, Phead, pairEnd, pheadEnd, pairText, pheadText, pairNeed, pheadNeed, Rabin, Rabop, rabinEnd, rabopEnd, rabinText, rabopText, rabinNeeds, rabopNeeds}
+use Rattle.hoa_formula.specs.Standard.{left, right, both, either, atom, Infs, Infop, infsEnd, infopEnd, infsText, infopText, infsCount, infopCount, FormulaMeaning}
+use Rattle.hoa_formula.specs.Standard.{standard, short}
+use Rattle.hoa_formula.specs.Standard.{Pair, Phead, pairEnd, pheadEnd, pairText, pheadText, pairNeed, pheadNeed, Rabin, Rabop, rabinEnd, rabopEnd, rabinText, rabopText}
+use Rattle.hoa_formula.specs.Standard.{rabinNeeds, rabopNeeds}
 use Rattle.hoa_formula.specs.Standard.{Single, Spair, Streett, Strop, streettEnd, stropEnd, singleText, spairText, streettText, stropText, Truth, truthText, truthMeaning}
 use Rattle.hoa_formula.specs.Standard.{Std, stdText, IsStd, stdMeaning, rabinMeaning, noNeeds}
 use Rattle.hoa_formula.specs.Machines.{Buchi, RabinWants, RabinBehind, StreettWants, StreettBehind, Bare, TruthWants, TruthBehind, Wants, Behind, begin}
 use Rattle.hoa_formula.specs.Machines.{wantsOpen, wantsInf, wantsFin, wantsTruth, behindClose, behindAnd, behindOr, someWants, someBehind}
-use Rattle.hoa_formula.specs.Machines.{rabinOpen, rabinInf, rabinClose, rabinOr, buchiLive, rabinWanting, rabinLive, streettWanting, streettLive, bareLive, truthWanting, truthLive, buchiDone, rabinDone, streettDone, bareDone}
-use Rattle.hoa_formula.specs.Formulas.{FormulaState, FormulaStep, go, wrong, state, operand, named, bracket, number, after, wordPiece, pieceOf, onOperand, needsInf, needsFin, byDone, truthDone, meaningOf, freeStep, formulaBegin}
+use Rattle.hoa_formula.specs.Machines.{rabinOpen, rabinInf, rabinClose, rabinOr, buchiLive, rabinWanting, rabinLive, streettWanting, streettLive, bareLive, truthWanting}
+use Rattle.hoa_formula.specs.Machines.{truthLive, buchiDone, rabinDone, streettDone, bareDone}
+use Rattle.hoa_formula.specs.Formulas.{FormulaState, FormulaStep, go, wrong, state, operand, named, bracket, number, after, wordPiece, pieceOf, onOperand, needsInf}
+use Rattle.hoa_formula.specs.Formulas.{needsFin, byDone, truthDone, meaningOf, freeStep, formulaBegin}
 use Rattle.hoa_formula.specs.Walking.{andOn, freeWalk, Stands}
 
 -- ---- some machine goes on
@@ -647,4 +651,7 @@ one-kind c x y p q e = same (complete c x p) (complete c y q)
         let s : go (a .state) ≡ go (b .state) = sym (a .walk) ∙ ap (freeWalk c (formulaBegin c)) e ∙ b .walk in
         let t : a .state ≡ b .state = cc in
         let g : a .stands .behind ≡ b .stands .behind = after-same (sym (a .stands .stage) ∙ ap (λ (z : FormulaState). z .stage) t ∙ b .stands .stage) in
-        sym (a .stands .means) ∙ ap (λ (z : FormulaState). meaningOf c (z .atoms) (z .needs) (a .stands .behind)) t ∙ ap (meaningOf c (b .state .atoms) (b .state .needs)) g ∙ b .stands .means
+        sym (a .stands .means)
+        ∙ ap (λ (z : FormulaState). meaningOf c (z .atoms) (z .needs) (a .stands .behind)) t
+        ∙ ap (meaningOf c (b .state .atoms) (b .state .needs)) g
+        ∙ b .stands .means

@@ -8,7 +8,8 @@ use Rattle.hoa_tokens.specs.Token.{Token}
 use Rattle.hoa_formula.specs.Cond as section2
 use Rattle.hoa_formula.specs.Cond.{Cond, Cconj, Catom, condText, cconjText, catomText}
 use Rattle.hoa_formula.specs.Standard.{left, right, both, either, Infs, Infop, infsEnd, infopEnd, infsText, infopText, Pair, Phead, pairEnd, pheadEnd, pairText, pheadText}
-use Rattle.hoa_formula.specs.Standard.{Rabin, Rabop, rabinEnd, rabopEnd, rabinText, rabopText, Single, Spair, Streett, Strop, streettEnd, stropEnd, singleText, spairText, streettText, stropText}
+use Rattle.hoa_formula.specs.Standard.{Rabin, Rabop, rabinEnd, rabopEnd, rabinText, rabopText, Single, Spair, Streett, Strop, streettEnd, stropEnd, singleText, spairText}
+use Rattle.hoa_formula.specs.Standard.{streettText, stropText}
 use Rattle.hoa_formula.specs.Standard.{Truth, truthText, Std, stdText}
 
 infMark : ℕ → Catom
@@ -31,7 +32,8 @@ mutual
 
   infs-cond : (x : Infs) (i : ℕ) (ts : List Token) → cconjText (infsConj x i) ts ≡ infsText x i ts
   infs-cond (Infs.one x) i ts = infop-cond x i ts
-  infs-cond (Infs.more x y) i ts = infop-cond x i (both (cconjText (infsConj y (infopEnd x i)) ts)) ∙ ap (λ (us : List Token). infopText x i (both us)) (infs-cond y (infopEnd x i) ts)
+  infs-cond (Infs.more x y) i ts =
+      infop-cond x i (both (cconjText (infsConj y (infopEnd x i)) ts)) ∙ ap (λ (us : List Token). infopText x i (both us)) (infs-cond y (infopEnd x i) ts)
 
   infop-cond : (x : Infop) (i : ℕ) (ts : List Token) → catomText (infopAtom x i) ts ≡ infopText x i ts
   infop-cond Infop.mark i ts = refl
@@ -51,7 +53,8 @@ mutual
 
   pair-cond : (x : Pair) (i : ℕ) (ts : List Token) → cconjText (pairConj x i) ts ≡ pairText x i ts
   pair-cond (Pair.alone x) i ts = phead-cond x i ts
-  pair-cond (Pair.needing x y) i ts = phead-cond x i (both (cconjText (infsConj y (pheadEnd x i)) ts)) ∙ ap (λ (us : List Token). pheadText x i (both us)) (infs-cond y (pheadEnd x i) ts)
+  pair-cond (Pair.needing x y) i ts =
+      phead-cond x i (both (cconjText (infsConj y (pheadEnd x i)) ts)) ∙ ap (λ (us : List Token). pheadText x i (both us)) (infs-cond y (pheadEnd x i) ts)
 
   phead-cond : (x : Phead) (i : ℕ) (ts : List Token) → catomText (pheadAtom x i) ts ≡ pheadText x i ts
   phead-cond Phead.mark i ts = refl
@@ -71,7 +74,8 @@ mutual
 
   rabin-cond : (x : Rabin) (i : ℕ) (ts : List Token) → condText (rabinCond x i) ts ≡ rabinText x i ts
   rabin-cond (Rabin.one x) i ts = rabop-cond x i ts
-  rabin-cond (Rabin.more x y) i ts = rabop-cond x i (either (condText (rabinCond y (rabopEnd x i)) ts)) ∙ ap (λ (us : List Token). rabopText x i (either us)) (rabin-cond y (rabopEnd x i) ts)
+  rabin-cond (Rabin.more x y) i ts =
+      rabop-cond x i (either (condText (rabinCond y (rabopEnd x i)) ts)) ∙ ap (λ (us : List Token). rabopText x i (either us)) (rabin-cond y (rabopEnd x i) ts)
 
   rabop-cond : (x : Rabop) (i : ℕ) (ts : List Token) → cconjText (rabopConj x i) ts ≡ rabopText x i ts
   rabop-cond (Rabop.pair x) i ts = pair-cond x i ts
@@ -118,7 +122,8 @@ mutual
 
   streett-cond : (x : Streett) (i : ℕ) (ts : List Token) → cconjText (streettConj x i) ts ≡ streettText x i ts
   streett-cond (Streett.one x) i ts = strop-cond x i ts
-  streett-cond (Streett.more x y) i ts = strop-cond x i (both (cconjText (streettConj y (stropEnd x i)) ts)) ∙ ap (λ (us : List Token). stropText x i (both us)) (streett-cond y (stropEnd x i) ts)
+  streett-cond (Streett.more x y) i ts =
+      strop-cond x i (both (cconjText (streettConj y (stropEnd x i)) ts)) ∙ ap (λ (us : List Token). stropText x i (both us)) (streett-cond y (stropEnd x i) ts)
 
   strop-cond : (x : Strop) (i : ℕ) (ts : List Token) → catomText (stropAtom x i) ts ≡ stropText x i ts
   strop-cond (Strop.pair x) i ts = ap left (spair-cond x i (right ts))

@@ -75,7 +75,8 @@ others-complete (past-is.StreettInf m v) h = refl
 others-complete (past-is.StreettPair m) h = absurd (miss (0 ∷ 6 ∷ 7 ∷ []) 8 tt h)
 others-complete (past-is.Bare x) h = absurd (miss (0 ∷ 6 ∷ 7 ∷ []) 9 tt h)
 
-pub others-over : (c atoms : ℕ) (n : Needs) (at : ℕ) (g : Stage) → OneOf (0 ∷ 1 ∷ 2 ∷ 3 ∷ []) (Declared.tagOf stage.the-type g) → found (found-is.Short at) noNeeds ≡ overRead c atoms n at g
+pub others-over : (c atoms : ℕ) (n : Needs) (at : ℕ) (g : Stage)
+    → OneOf (0 ∷ 1 ∷ 2 ∷ 3 ∷ []) (Declared.tagOf stage.the-type g) → found (found-is.Short at) noNeeds ≡ overRead c atoms n at g
 others-over c atoms n at (stage-is.Operand x) h = refl
 others-over c atoms n at (stage-is.Named x) h = refl
 others-over c atoms n at (stage-is.Bracket x) h = refl

@@ -61,7 +61,8 @@ record Examples : Type 0 where
   aborted : reads 1 (bytes "(Inf(0) --ABORT--") (refused 41 8)
 
 examples : Examples
-unfolding tokensAt stream.some first gapOf isBlank front isDigit isCapital isLetter isName run number isInt spelt named wordOf headerOf furtherHeader quoted at fixed signOf bytes same pieceOf meaningOf eightNeeds formulaBegin freeStep formulaStep formulaRun
+unfolding tokensAt stream.some first gapOf isBlank front isDigit isCapital isLetter isName run number isInt spelt named wordOf headerOf furtherHeader quoted at fixed
+    signOf bytes same pieceOf meaningOf eightNeeds formulaBegin freeStep formulaStep formulaRun
 examples =
     record {
       inf-or = refl;

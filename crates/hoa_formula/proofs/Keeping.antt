@@ -26,7 +26,8 @@ use Rattle.hoa_formula.specs.declared.needs.Needs.{Needs}
 use Rattle.hoa_formula.specs.Standard.{mostPairs, eightNeeds}
 use Rattle.hoa_formula.specs.Machines.{RabinWants}
 use Rattle.hoa_formula.specs.Formulas.{needsInf, needsFin}
-use Rattle.hoa_formula.specs.inner.Sides.{aheadIs, aheadWithin, pastWithin, firstPair, closedPair, closedInf, streettPast, openedTo, infTo, finTo, truthTo, closedTo, andTo, orTo, isLostAhead, isLostPast}
+use Rattle.hoa_formula.specs.inner.Sides.{aheadIs, aheadWithin, pastWithin, firstPair, closedPair, closedInf, streettPast, openedTo, infTo, finTo, truthTo, closedTo}
+use Rattle.hoa_formula.specs.inner.Sides.{andTo, orTo, isLostAhead, isLostPast}
 use Rattle.hoa_formula.specs.inner.Turns as turns
 use Rattle.hoa_formula.specs.inner.Turns.{stageWithin, Within, formula, opensPairAhead, goAhead, goNamed, goPast, turnAt}
 use Rattle.hoa_formula.specs.inner.Counts.{Counts, noNinth, Bounded, tally, neededTo, begunTo, infNeeds, operandNeeds, stageNeeds, countedTo}
@@ -352,21 +353,28 @@ module _ (c : ℕ) (ns : List ℕ) (n : Needs) where
   to e h = rw e at h
 
   operand-keeps : (d k : ℕ) (a : Ahead) (p : Piece) (f : Formula) → turns.onOperand c d k a p (n .pairs) ≡ turn-is.Go f → Keeps c ns n (formula d k (stage-is.Operand a)) p f
-  operand-keeps d k a piece-is.Left f e = to (ahead-goes (suc d) k (openedTo a) (n .pairs) f e .0) (still _ piece-is.Left _ refl refl (omega arith) (ahead-goes (suc d) k (openedTo a) (n .pairs) f e .1) (λ j w. record { depth = omega (arith, w .depth); stage = open-within j a (w .stage) }))
+  operand-keeps d k a piece-is.Left f e =
+      to (ahead-goes (suc d) k (openedTo a) (n .pairs) f e .0)
+      (still _ piece-is.Left _ refl refl (omega arith) (ahead-goes (suc d) k (openedTo a) (n .pairs) f e .1)
+      (λ j w. record { depth = omega (arith, w .depth); stage = open-within j a (w .stage) }))
   operand-keeps d k a piece-is.Right f e = never 40 f e
   operand-keeps d k a piece-is.And f e = never 40 f e
   operand-keeps d k a piece-is.Or f e = never 40 f e
   operand-keeps d k a piece-is.Not f e = never 40 f e
   operand-keeps d k a piece-is.Inf f e = to (named-goes c d k (infTo c a) f e .0) (inf-keeps d k a (named-goes c d k (infTo c a) f e .1))
   operand-keeps d k a piece-is.Fin f e = to (named-goes c d k (finTo a) f e .0) (fin-keeps d k a (named-goes c d k (finTo a) f e .1))
-  operand-keeps d k a (piece-is.Truth x) f e = to (past-goes d k (truthTo c x a) f e) (still _ (piece-is.Truth x) _ refl refl (omega arith) refl (λ j w. record { depth = omega (arith, w .depth); stage = truth-within j c x a (w .stage) }))
+  operand-keeps d k a (piece-is.Truth x) f e =
+      to (past-goes d k (truthTo c x a) f e)
+      (still _ (piece-is.Truth x) _ refl refl (omega arith) refl (λ j w. record { depth = omega (arith, w .depth); stage = truth-within j c x a (w .stage) }))
   operand-keeps d k a piece-is.Name f e = never 41 f e
   operand-keeps d k a (piece-is.Number x) f e = never 40 f e
   operand-keeps d k a piece-is.Abort f e = never 41 f e
   operand-keeps d k a piece-is.Foreign f e = never 40 f e
 
   named-keeps : (d k : ℕ) (b : Past) (p : Piece) (f : Formula) → turns.onNamed d k b p ≡ turn-is.Go f → Keeps c ns n (formula d k (stage-is.Named b)) p f
-  named-keeps d k b piece-is.Left f e = to (unwrap e) (still _ piece-is.Left (formula d k (stage-is.Bracket b)) refl refl (omega arith) refl (λ j w. record { depth = omega (arith, w .depth); stage = past-more j b (w .stage) }))
+  named-keeps d k b piece-is.Left f e =
+      to (unwrap e)
+      (still _ piece-is.Left (formula d k (stage-is.Bracket b)) refl refl (omega arith) refl (λ j w. record { depth = omega (arith, w .depth); stage = past-more j b (w .stage) }))
   named-keeps d k b piece-is.Right f e = never 40 f e
   named-keeps d k b piece-is.And f e = never 40 f e
   named-keeps d k b piece-is.Or f e = never 40 f e
@@ -381,7 +389,9 @@ module _ (c : ℕ) (ns : List ℕ) (n : Needs) where
 
   number-keeps : (d k : ℕ) (b : Past) (p : Piece) (f : Formula) → turns.onNumber d k b p ≡ turn-is.Go f → Keeps c ns n (formula d k (stage-is.Number b)) p f
   number-keeps d k b piece-is.Left f e = never 40 f e
-  number-keeps d k b piece-is.Right f e = to (unwrap e) (still _ piece-is.Right (formula d k (stage-is.After b)) refl refl (omega arith) refl (λ j w. record { depth = omega (arith, w .depth); stage = past-more j b (w .stage) }))
+  number-keeps d k b piece-is.Right f e =
+      to (unwrap e)
+      (still _ piece-is.Right (formula d k (stage-is.After b)) refl refl (omega arith) refl (λ j w. record { depth = omega (arith, w .depth); stage = past-more j b (w .stage) }))
   number-keeps d k b piece-is.And f e = never 40 f e
   number-keeps d k b piece-is.Or f e = never 40 f e
   number-keeps d k b piece-is.Not f e = never 40 f e
@@ -395,7 +405,10 @@ module _ (c : ℕ) (ns : List ℕ) (n : Needs) where
 
   by-number : (d k : ℕ) (b : Past) (x : ℕ) (t : Bool) (f : Formula) → cond t (turn-is.Go (formula d k (stage-is.Number b))) (turn-is.Wrong 41) ≡ turn-is.Go f
       → Keeps c ns n (formula d k (stage-is.Bracket b)) (piece-is.Number x) f
-  by-number d k b x true f e = to (unwrap e) (still _ (piece-is.Number x) (formula d k (stage-is.Number b)) refl refl (omega arith) refl (λ j w. record { depth = omega (arith, w .depth); stage = past-more j b (w .stage) }))
+  by-number d k b x true f e =
+      to (unwrap e)
+      (still _ (piece-is.Number x) (formula d k (stage-is.Number b)) refl refl (omega arith) refl
+      (λ j w. record { depth = omega (arith, w .depth); stage = past-more j b (w .stage) }))
   by-number d k b x false f e = never 41 f e
 
   bracket-keeps : (d k : ℕ) (b : Past) (p : Piece) (f : Formula) → turns.onBracket d k b p ≡ turn-is.Go f → Keeps c ns n (formula d k (stage-is.Bracket b)) p f
@@ -418,14 +431,16 @@ module _ (c : ℕ) (ns : List ℕ) (n : Needs) where
       → Keeps c ns n (formula d k (stage-is.After b)) p f
   by-joined d k b p a true f s h e =
       to (ahead-goes d k a (n .pairs) f e .0)
-      (still _ p (formula d k (stage-is.Operand a)) refl s (omega arith) (ahead-goes d k a (n .pairs) f e .1) (λ j w. record { depth = omega (arith, w .depth); stage = h j (w .stage) }))
+      (still _ p (formula d k (stage-is.Operand a)) refl s (omega arith) (ahead-goes d k a (n .pairs) f e .1)
+      (λ j w. record { depth = omega (arith, w .depth); stage = h j (w .stage) }))
   by-joined d k b p a false f s h e = never 41 f e
 
   by-closed : (d k : ℕ) (b : Past) (f : Formula) → turns.closes d k b ≡ turn-is.Go f → Keeps c ns n (formula d k (stage-is.After b)) piece-is.Right f
   by-closed zero k b f e = never-over f e
   by-closed (suc d) k b f e =
       to (past-goes d k (closedTo b) f e)
-      (still _ piece-is.Right (formula d k (stage-is.After (closedTo b))) refl refl (omega arith) refl (λ j w. record { depth = omega (arith, w .depth); stage = close-within j b (w .stage) }))
+      (still _ piece-is.Right (formula d k (stage-is.After (closedTo b))) refl refl (omega arith) refl
+      (λ j w. record { depth = omega (arith, w .depth); stage = close-within j b (w .stage) }))
 
   after-keeps : (d k : ℕ) (b : Past) (p : Piece) (f : Formula) → turns.onAfter c d k b p (n .pairs) ≡ turn-is.Go f → Keeps c ns n (formula d k (stage-is.After b)) p f
   after-keeps d k b piece-is.Left f e = never-ends d 40 f e

@@ -106,7 +106,8 @@ within-up j k f l w = record { depth = omega (arith, w .depth); stage = stage-up
 -- ---- where the formula is over
 
 first-none : (c : ℕ) (ns : List ℕ) (d : ℕ) (e t : Bool)
-    → byDone c ns (behind Buchi.lost (RabinBehind.pair (suc d) (suc d) 0) (cond e (StreettBehind.fin d d) StreettBehind.lost) (cond t (Bare.fin (suc d)) Bare.lost) TruthBehind.lost) ≡ short
+    → byDone c ns
+    (behind Buchi.lost (RabinBehind.pair (suc d) (suc d) 0) (cond e (StreettBehind.fin d d) StreettBehind.lost) (cond t (Bare.fin (suc d)) Bare.lost) TruthBehind.lost) ≡ short
 first-none c ns d true true = refl
 first-none c ns d true false = refl
 first-none c ns d false true = refl
@@ -239,7 +240,10 @@ module _ (text : List ℕ) (at c : ℕ) (f : Formula) (n : Needs) (here : ℕ) (
   run-says x e =
       r .run
       ∙ rw (tokens-next text here token t, ← e)
-      (ap (λ (y : FormulaStep). onward y (λ s. formulaRun c s (unlessFinished tok (tokensAt text (token .next)))) (placed (token .first) (token .next) tok) (unlessFinished tok (tokensAt text (token .next)))) step-says)
+      (ap (λ (y : FormulaStep). onward y (λ s. formulaRun c s rest) (placed (token .first) (token .next) tok) rest) step-says)
+    where
+      rest : List Placed
+      rest = unlessFinished tok (tokensAt text (token .next))
 
   -- what is no token of a formula does not let the reader go on
   not-finish : (f' : Formula) → turnAt c f p (n .pairs) ≡ turn-is.Go f' → token .kind ≡ kind-is.Finish → ⊥
@@ -263,7 +267,9 @@ module _ (text : List ℕ) (at c : ℕ) (f : Formula) (n : Needs) (here : ℕ) (
       let k = keeps c (r .needs) n f p f' e in
       record {
         needs = needsNext c (f .stage) p (r .needs);
-        run = run-says (turn-is.Go f') e ∙ ap (formulaRun c (stateOf c f' (needsNext c (f .stage) p (r .needs)))) (unless text (token .first) (token .next) (token .kind) _ (not-finish f' e));
+        run =
+            run-says (turn-is.Go f') e
+            ∙ ap (formulaRun c (stateOf c f' (needsNext c (f .stage) p (r .needs)))) (unless text (token .first) (token .next) (token .kind) _ (not-finish f' e));
         counts = k .counts (r .counts) (r .bounded);
         bounded = k .bounded (r .bounded);
         within = within-up (suc here) (token .next) f' (omega (arith, m .behind-at, m .takes)) (k .within here (r .within));

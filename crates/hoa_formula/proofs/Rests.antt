@@ -15,7 +15,8 @@ use Rattle.hoa_formula.specs.declared.machine.Piece.{Piece}
 use Rattle.hoa_formula.specs.declared.machine.Piece.the-variants as piece-is
 use Rattle.hoa_formula.specs.Standard.{left, right, both, either, atom, FormulaMeaning}
 use Rattle.hoa_formula.specs.Machines.{Wants, Behind, wantsOpen, wantsInf, wantsFin, wantsTruth, behindClose, behindAnd, behindOr, someWants, someBehind}
-use Rattle.hoa_formula.specs.Formulas.{FormulaState, FormulaStep, go, over, wrong, state, Stage, operand, named, bracket, number, after, pieceOf, needsInf, needsFin, meaningOf}
+use Rattle.hoa_formula.specs.Formulas.{FormulaState, FormulaStep, go, over, wrong, state, Stage, operand, named, bracket, number, after, pieceOf, needsInf, needsFin}
+use Rattle.hoa_formula.specs.Formulas.{meaningOf}
 use Rattle.hoa_formula.specs.Formulas.{goWants, goNamed, goAfter, ends, closes, onOperand, onNamed, onBracket, onNumber, onAfter, onStage, freeStep}
 use Rattle.hoa_formula.specs.Walking.{andOn, freeWalk}
 
@@ -111,17 +112,20 @@ wants-went c n d d' ns g p w s h e = subst (λ (x : FormulaState). To c n d g p 
 after-went : (c n d d' : ℕ) (ns : List ℕ) (g : Stage) (p : Piece) (b : Behind) (s : FormulaState) → Went c n d g p d' n (after b) → goAfter d' n ns b ≡ go s → To c n d g p s
 after-went c n d d' ns g p b s h e = subst (λ (x : FormulaState). To c n d g p x) (tested (someBehind b) (state d' n ns (after b)) s e .1) h
 
-named-went : (c n d : ℕ) (ns : List ℕ) (g : Stage) (p : Piece) (b : Behind) (s : FormulaState) → (n < c → Went c n d g p d (suc n) (named b)) → goNamed c d n ns b ≡ go s → To c n d g p s
+named-went : (c n d : ℕ) (ns : List ℕ) (g : Stage) (p : Piece) (b : Behind) (s : FormulaState)
+    → (n < c → Went c n d g p d (suc n) (named b)) → goNamed c d n ns b ≡ go s → To c n d g p s
 named-went c n d ns g p b s h e =
     let t = tested (ltb n c && someBehind b) (state d (suc n) ns (named b)) s e in
     subst (λ (x : FormulaState). To c n d g p x) (t .1) (h (ltb-true n c (both-true (ltb n c) (someBehind b) (t .0))))
 
-joined-went : (c n d : ℕ) (ns : List ℕ) (g : Stage) (p : Piece) (w : Wants) (t : Bool) (s : FormulaState) → ltb n c ≡ t → (n < c → Went c n d g p d n (operand w)) → cond t (goWants d n ns w) (wrong 41) ≡ go s
+joined-went : (c n d : ℕ) (ns : List ℕ) (g : Stage) (p : Piece) (w : Wants) (t : Bool) (s : FormulaState)
+    → ltb n c ≡ t → (n < c → Went c n d g p d n (operand w)) → cond t (goWants d n ns w) (wrong 41) ≡ go s
     → To c n d g p s
 joined-went c n d ns g p w true s q h e = wants-went c n d d ns g p w s (h (ltb-true n c q)) e
 joined-went c n d ns g p w false s q h e = not-wrong 41 s e
 
-number-went : (c n d k : ℕ) (ns : List ℕ) (b : Behind) (s : FormulaState) → cond (eqb (suc k) n) (go (state d n ns (number b))) (wrong 41) ≡ go s → To c n d (bracket b) (piece-is.Number k) s
+number-went : (c n d k : ℕ) (ns : List ℕ) (b : Behind) (s : FormulaState)
+    → cond (eqb (suc k) n) (go (state d n ns (number b))) (wrong 41) ≡ go s → To c n d (bracket b) (piece-is.Number k) s
 number-went c n d k ns b s e =
     let t = tested (eqb (suc k) n) (state d n ns (number b)) s e in
     let h : Went c n d (bracket b) (piece-is.Number k) d n (number b) = numbers k (eqb-true (suc k) n (t .0)) in

@@ -17,7 +17,8 @@ use Rattle.hoa_formula.specs.Standard.{Pair, Phead, pairEnd, pheadEnd, p
 use Rattle.hoa_formula.specs.Standard.{Single, Spair, Streett, Strop, streettEnd, stropEnd, singleText, spairText, streettText, stropText, Truth, truthText}
 use Rattle.hoa_formula.specs.Standard.{Std, stdText, IsStd, stdMeaning}
 use Rattle.hoa_formula.specs.Machines.{Buchi, RabinWants, RabinBehind, StreettWants, StreettBehind, Bare, TruthWants, TruthBehind, Wants, Behind, begin}
-use Rattle.hoa_formula.specs.Machines.{buchiOpen, buchiClose, rabinOpen, rabinInf, rabinFin, rabinClose, rabinAnd, rabinOr, streettOpen, streettInf, streettFin, streettClose, streettAnd, streettOr}
+use Rattle.hoa_formula.specs.Machines.{buchiOpen, buchiClose, rabinOpen, rabinInf, rabinFin, rabinClose, rabinAnd, rabinOr, streettOpen, streettInf, streettFin}
+use Rattle.hoa_formula.specs.Machines.{streettClose, streettAnd, streettOr}
 use Rattle.hoa_formula.specs.Machines.{bareOpen, bareInf, bareFin, bareClose, bareOr, truthOpen, truthIs, truthClose, buchiDone, rabinDone, streettDone, bareDone}
 use Rattle.hoa_formula.specs.Formulas.{FormulaState, go, Stage, after, pieceOf, truthDone, byDone, meaningOf, formulaBegin}
 use Rattle.hoa_formula.specs.Walking.{freeWalk, Stands}
@@ -215,7 +216,8 @@ module _ (c : ℕ) where
       → FinWants c 0 0 0 ts
   unfolding formulaBegin
   rabin-rest ts f b e g h =
-      rest c (λ w. WantsRabin c (w .rabin)) (λ b. BehindRabin c (b .rabin)) (λ w. rabin-open (w .rabin)) (λ w n ts l. rabin-inf (w .rabin) n ts) (λ w n ts l. rabin-fin (w .rabin) n ts)
+      rest c (λ w. WantsRabin c (w .rabin)) (λ b. BehindRabin c (b .rabin)) (λ w. rabin-open (w .rabin)) (λ w n ts l. rabin-inf (w .rabin) n ts)
+      (λ w n ts l. rabin-fin (w .rabin) n ts)
       (λ t w n ts h. absurd h) (λ b. rabin-close (b .rabin)) (λ b n ts l. rabin-and (b .rabin) n ts) (λ b n ts l. rabin-or (b .rabin) n ts)
       ts (formulaBegin c) f e (rw g h)
 
@@ -267,7 +269,8 @@ module _ (c : ℕ) where
   unfolding InfEnd singleText
   inf-open m v k ts h = record { inf = Single.brackets (h .inf); us = h .end .0; text = rw (h .text, h .end .1); end = h .end .2 }
 
-  str-open-operand : (m u i : ℕ) (ts : List Token) (x : Strop) (us : List Token) → ts ≡ stropText x i us → Pairs (StreettEnd c (suc m)) (stropEnd x i) us → StrWanted c m u i (left ts)
+  str-open-operand : (m u i : ℕ) (ts : List Token) (x : Strop) (us : List Token)
+      → ts ≡ stropText x i us → Pairs (StreettEnd c (suc m)) (stropEnd x i) us → StrWanted c m u i (left ts)
   unfolding StreettEnd streettText stropText streettEnd stropEnd
   str-open-operand m u i ts x us e (Pairs.stops h) = operand {i = i} {ts = left ts} (Strop.brackets (Streett.one x)) (h .0) (rw (e, h .1)) (h .2)
   str-open-operand m u i ts x us e (Pairs.goes y vs q h) = operand {i = i} {ts = left ts} (Strop.brackets (Streett.more x y)) (h .0) (rw (e, q, h .1)) (h .2)

@@ -31,8 +31,10 @@ use Rattle.hoa_formula.specs.inner.Turns.{stageOf, stateOf, turnOf, form
 -- ---- the machines side by side
 
 open-start : (d : ℕ) (e t z : Bool)
-    → wantsOpen (wants (Buchi.live d) (RabinWants.fin d d) (cond e (StreettWants.fin d d) StreettWants.lost) (cond t (Bare.fin d) Bare.lost) (cond z (TruthWants.live d) TruthWants.lost))
-    ≡ wants (Buchi.live (suc d)) (RabinWants.fin (suc d) (suc d)) (cond e (StreettWants.fin (suc d) (suc d)) StreettWants.lost) (cond t (Bare.fin (suc d)) Bare.lost) (cond z (TruthWants.live (suc d)) TruthWants.lost)
+    → wantsOpen
+    (wants (Buchi.live d) (RabinWants.fin d d) (cond e (StreettWants.fin d d) StreettWants.lost) (cond t (Bare.fin d) Bare.lost) (cond z (TruthWants.live d) TruthWants.lost))
+    ≡ wants (Buchi.live (suc d)) (RabinWants.fin (suc d) (suc d)) (cond e (StreettWants.fin (suc d) (suc d)) StreettWants.lost) (cond t (Bare.fin (suc d)) Bare.lost)
+    (cond z (TruthWants.live (suc d)) TruthWants.lost)
 open-start d true true true = refl
 open-start d true true false = refl
 open-start d true false true = refl
@@ -160,7 +162,8 @@ close-none false true = refl
 close-none false false = refl
 
 close-some : (d : ℕ) (e t : Bool)
-    → behindClose (behind Buchi.lost (RabinBehind.pair (suc d) (suc d) 0) (cond e (StreettBehind.fin d d) StreettBehind.lost) (cond t (Bare.fin (suc d)) Bare.lost) TruthBehind.lost)
+    → behindClose
+    (behind Buchi.lost (RabinBehind.pair (suc d) (suc d) 0) (cond e (StreettBehind.fin d d) StreettBehind.lost) (cond t (Bare.fin (suc d)) Bare.lost) TruthBehind.lost)
     ≡ behind Buchi.lost (RabinBehind.pair d d 0) (cond e (firstStreett d) StreettBehind.lost) (cond t (Bare.fin d) Bare.lost) TruthBehind.lost
 close-some zero true true = refl
 close-some zero true false = refl
@@ -339,12 +342,14 @@ module _ (c : ℕ) (ns : List ℕ) (m : FormulaMeaning) where
   pub go-named-is : (d n : ℕ) (p : Past) → limited (formulas.goNamed c d n ns (pastIs c p)) ≡ turnOf c ns m (goNamed c d n p)
   go-named-is d n p = named-by d n p (ltb n c) (isLostPast p) refl (some-past c p)
 
-  joined-by : (d n : ℕ) (a : Ahead) (below : Bool) → limited (cond below (formulas.goWants d n ns (aheadIs c a)) (wrong 41)) ≡ turnOf c ns m (cond below (goAhead d n a (length ns)) (turn-is.Wrong 41))
+  joined-by : (d n : ℕ) (a : Ahead) (below : Bool)
+      → limited (cond below (formulas.goWants d n ns (aheadIs c a)) (wrong 41)) ≡ turnOf c ns m (cond below (goAhead d n a (length ns)) (turn-is.Wrong 41))
   joined-by d n a true = go-ahead-is d n a
   joined-by d n a false = refl
 
   number-by : (d n : ℕ) (p : Past) (t : Bool)
-      → limited (cond t (go (state d n ns (formulas.Stage.number (pastIs c p)))) (wrong 41)) ≡ turnOf c ns m (cond t (turn-is.Go (formula d n (stage-is.Number p))) (turn-is.Wrong 41))
+      → limited (cond t (go (state d n ns (formulas.Stage.number (pastIs c p)))) (wrong 41)) ≡ turnOf c ns m
+      (cond t (turn-is.Go (formula d n (stage-is.Number p))) (turn-is.Wrong 41))
   number-by d n p true = refl
   number-by d n p false = refl
 
@@ -355,8 +360,12 @@ operand-is c d n ns a piece-is.Right = refl
 operand-is c d n ns a piece-is.And = refl
 operand-is c d n ns a piece-is.Or = refl
 operand-is c d n ns a piece-is.Not = refl
-operand-is c d n ns a piece-is.Inf = ap (λ (w : Behind). limited (formulas.goNamed c d n (needsInf (aheadIs c a .rabin) ns) w)) (inf-is c a) ∙ go-named-is c (needsInf (aheadIs c a .rabin) ns) short d n (infTo c a)
-operand-is c d n ns a piece-is.Fin = ap (λ (w : Behind). limited (formulas.goNamed c d n (needsFin (aheadIs c a .rabin) ns) w)) (fin-is c a) ∙ go-named-is c (needsFin (aheadIs c a .rabin) ns) short d n (finTo a)
+operand-is c d n ns a piece-is.Inf =
+    ap (λ (w : Behind). limited (formulas.goNamed c d n (needsInf (aheadIs c a .rabin) ns) w)) (inf-is c a)
+    ∙ go-named-is c (needsInf (aheadIs c a .rabin) ns) short d n (infTo c a)
+operand-is c d n ns a piece-is.Fin =
+    ap (λ (w : Behind). limited (formulas.goNamed c d n (needsFin (aheadIs c a .rabin) ns) w)) (fin-is c a)
+    ∙ go-named-is c (needsFin (aheadIs c a .rabin) ns) short d n (finTo a)
 operand-is c d n ns a (piece-is.Truth b) = ap (λ (w : Behind). limited (formulas.goAfter d n ns w)) (truth-is c b a) ∙ go-past-is c ns short d n (truthTo c b a)
 operand-is c d n ns a piece-is.Name = refl
 operand-is c d n ns a (piece-is.Number k) = refl
@@ -421,8 +430,10 @@ after-is : (c d n : ℕ) (ns : List ℕ) (b : Past) (p : Piece)
     → limited (formulas.onAfter c d n ns (pastIs c b) p) ≡ turnOf c ns (meaningOf c n ns (pastIs c b)) (turns.onAfter c d n b p (length ns))
 after-is c d n ns x piece-is.Left = ends-is c d ns (meaningOf c n ns (pastIs c x)) 40
 after-is c d n ns x piece-is.Right = closes-is c d n ns x
-after-is c d n ns x piece-is.And = ap (λ (w : Wants). limited (cond (ltb n c) (formulas.goWants d n ns w) (wrong 41))) (and-is c x) ∙ joined-by c ns (meaningOf c n ns (pastIs c x)) d n (andTo x) (ltb n c)
-after-is c d n ns x piece-is.Or = ap (λ (w : Wants). limited (cond (ltb n c) (formulas.goWants d n ns w) (wrong 41))) (or-is c x) ∙ joined-by c ns (meaningOf c n ns (pastIs c x)) d n (orTo x) (ltb n c)
+after-is c d n ns x piece-is.And =
+    ap (λ (w : Wants). limited (cond (ltb n c) (formulas.goWants d n ns w) (wrong 41))) (and-is c x) ∙ joined-by c ns (meaningOf c n ns (pastIs c x)) d n (andTo x) (ltb n c)
+after-is c d n ns x piece-is.Or =
+    ap (λ (w : Wants). limited (cond (ltb n c) (formulas.goWants d n ns w) (wrong 41))) (or-is c x) ∙ joined-by c ns (meaningOf c n ns (pastIs c x)) d n (orTo x) (ltb n c)
 after-is c d n ns x piece-is.Not = ends-is c d ns (meaningOf c n ns (pastIs c x)) 40
 after-is c d n ns x piece-is.Inf = ends-is c d ns (meaningOf c n ns (pastIs c x)) 40
 after-is c d n ns x piece-is.Fin = ends-is c d ns (meaningOf c n ns (pastIs c x)) 40

@@ -6,5 +6,6 @@ use Rattle.hoa_formula.specs.declared.FormulaRead.{FormulaRead}
 use Rattle.hoa_formula.specs.Reading.{foundSays, FormulaAt}
 
 -- both say the same of the text
-pub same-said : (text : List ℕ) (at c : ℕ) (r q : FormulaRead) → FormulaAt text at c r → FormulaAt text at c q → foundSays text (r .needs) (r .found) ≡ foundSays text (q .needs) (q .found)
+pub same-said : (text : List ℕ) (at c : ℕ) (r q : FormulaRead)
+    → FormulaAt text at c r → FormulaAt text at c q → foundSays text (r .needs) (r .found) ≡ foundSays text (q .needs) (q .found)
 same-said text at c r q a b = sym (a .is) ∙ b .is

@@ -14,7 +14,8 @@ use Rattle.hoa_tokens.specs.Stream.{Placed}
 use Rattle.hoa_formula.specs.declared.machine.Piece.{Piece}
 use Rattle.hoa_formula.specs.declared.machine.Piece.the-variants as piece-is
 use Rattle.hoa_formula.specs.Standard.{FormulaMeaning, standard, short, mostPairs, noNeeds, rabinMeaning}
-use Rattle.hoa_formula.specs.Machines.{RabinWants, TruthBehind, Wants, Behind, begin, wantsOpen, wantsInf, wantsFin, wantsTruth, behindClose, behindAnd, behindOr, someWants, someBehind}
+use Rattle.hoa_formula.specs.Machines.{RabinWants, TruthBehind, Wants, Behind, begin, wantsOpen, wantsInf, wantsFin, wantsTruth, behindClose, behindAnd, behindOr}
+use Rattle.hoa_formula.specs.Machines.{someWants, someBehind}
 use Rattle.hoa_formula.specs.Machines.{buchiDone, rabinDone, streettDone, bareDone}
 
 -- ---- what a token is to a formula

@@ -2,7 +2,8 @@
 // Four machines run side by side (specs/Machines.antt); since the first atoms tell the kinds apart, few states are met together, and each is one case here.
 ghost use mathlib.Core.Path.{_≡_};
 ghost use Prim.Native.Nat.{_+_, _<_};
-ghost use Rattle.hoa_formula.specs.inner.Sides.{aheadWithin, openedTo, infTo, finTo, truthTo, closedTo, andTo, orTo, firstPair, streettPast, closedPair, closedInf, isLostAhead, isLostPast, bracketRoom};
+ghost use Rattle.hoa_formula.specs.inner.Sides.{aheadWithin, openedTo, infTo, finTo, truthTo, closedTo, andTo, orTo, firstPair, streettPast, closedPair, closedInf};
+ghost use Rattle.hoa_formula.specs.inner.Sides.{isLostAhead, isLostPast, bracketRoom};
 
 // A token as a formula sees it: brackets, signs, the words it knows, any other word, a number, `--ABORT--`, anything else.
 pub enum Piece {

@@ -6,3 +6,9 @@ pub mod Standard
 pub mod Machines
 -- Formulas: admission, one token at a time
 pub mod Formulas
+-- Walking: runs of tokens, and beginnings of formulas
+pub mod Walking
+-- Reading: what the reader promises
+pub mod Reading
+-- inner: what only the reader's own contracts need
+pub mod inner

@@ -1,3 +1,5 @@
+-- Pairs: the limit of pairs in a formula
+pub mod Pairs
 -- Onward: a stretch leads on, or passes a limit
 pub mod Onward
 -- Names: the same bytes

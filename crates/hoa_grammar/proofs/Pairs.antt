@@ -342,3 +342,295 @@ module _ (c d n : ℕ) (ns : List ℕ) where
 step-beside : (c : ℕ) (s : FormulaState) (t : Token) → Beside s → Wherever Beside (freeStep c s t)
 unfolding freeStep
 step-beside c s t h = stage-beside c (s .depth) (s .atoms) (s .needs) (s .stage) (formulas.pieceOf t) h
+
+-- ---- nine pairs
+
+-- only the Rabin machine can go on
+record OnlyWants (w : Wants) : Type 0 where
+  buchi-lost : w .buchi ≡ Buchi.lost
+  truth-lost : w .truth ≡ TruthWants.lost
+  streett-lost : w .streett ≡ StreettWants.lost
+  bare-lost : w .bare ≡ Bare.lost
+
+record OnlyBehind (b : Behind) : Type 0 where
+  buchi-lost : b .buchi ≡ Buchi.lost
+  truth-lost : b .truth ≡ TruthBehind.lost
+  streett-lost : b .streett ≡ StreettBehind.lost
+  bare-lost : b .bare ≡ Bare.lost
+
+-- nine pairs, or eight and one that opens
+abbrev NineWants : ℕ → RabinWants → Type 0
+NineWants n RabinWants.lost = Unit {0}
+NineWants n (RabinWants.fin m p) = mostPairs ≤ n
+NineWants n (RabinWants.inf m p d) = mostPairs < n
+
+abbrev NineBehind : ℕ → RabinBehind → Type 0
+NineBehind n RabinBehind.lost = Unit {0}
+NineBehind n (RabinBehind.pair m p d) = mostPairs < n
+NineBehind n (RabinBehind.group m) = mostPairs < n
+
+abbrev NineStage : ℕ → Stage → Type 0
+NineStage n (operand w) = OnlyWants w × NineWants n (w .rabin)
+NineStage n (named b) = OnlyBehind b × NineBehind n (b .rabin)
+NineStage n (bracket b) = OnlyBehind b × NineBehind n (b .rabin)
+NineStage n (number b) = OnlyBehind b × NineBehind n (b .rabin)
+NineStage n (after b) = OnlyBehind b × NineBehind n (b .rabin)
+
+abbrev Nine : FormulaState → Type 0
+Nine s = NineStage (length (s .needs)) (s .stage)
+
+only-open : (w : Wants) → OnlyWants w → OnlyWants (wantsOpen w)
+only-open w h =
+    record { buchi-lost = rw (h .buchi-lost) refl; truth-lost = rw (h .truth-lost) refl; streett-lost = rw (h .streett-lost) refl; bare-lost = rw (h .bare-lost) refl }
+
+only-inf : (w : Wants) → OnlyWants w → OnlyBehind (wantsInf w)
+only-inf w h = record { buchi-lost = h .buchi-lost; truth-lost = refl; streett-lost = rw (h .streett-lost) refl; bare-lost = rw (h .bare-lost) refl }
+
+only-fin : (w : Wants) → OnlyWants w → OnlyBehind (wantsFin w)
+only-fin w h = record { buchi-lost = refl; truth-lost = refl; streett-lost = rw (h .streett-lost) refl; bare-lost = rw (h .bare-lost) refl }
+
+only-truth : (x : Bool) (w : Wants) → OnlyWants w → OnlyBehind (wantsTruth x w)
+only-truth x w h = record { buchi-lost = refl; truth-lost = rw (h .truth-lost) refl; streett-lost = refl; bare-lost = refl }
+
+only-close : (b : Behind) → OnlyBehind b → OnlyBehind (behindClose b)
+only-close b h =
+    record { buchi-lost = rw (h .buchi-lost) refl; truth-lost = rw (h .truth-lost) refl; streett-lost = rw (h .streett-lost) refl; bare-lost = rw (h .bare-lost) refl }
+
+only-and : (b : Behind) → OnlyBehind b → OnlyWants (behindAnd b)
+only-and b h = record { buchi-lost = h .buchi-lost; truth-lost = refl; streett-lost = rw (h .streett-lost) refl; bare-lost = refl }
+
+only-or : (b : Behind) → OnlyBehind b → OnlyWants (behindOr b)
+only-or b h = record { buchi-lost = refl; truth-lost = refl; streett-lost = rw (h .streett-lost) refl; bare-lost = rw (h .bare-lost) refl }
+
+nine-open : (n : ℕ) (r : RabinWants) → NineWants n r → NineWants n (rabinOpen r)
+nine-open n RabinWants.lost h = tt
+nine-open n (RabinWants.fin m p) h = h
+nine-open n (RabinWants.inf m p d) h = h
+
+nine-inf : (n : ℕ) (r : RabinWants) → NineWants n r → NineBehind n (rabinInf r)
+nine-inf n RabinWants.lost h = tt
+nine-inf n (RabinWants.fin m p) h = tt
+nine-inf n (RabinWants.inf m p d) h = h
+
+nine-fin : (ns : List ℕ) (r : RabinWants) → NineWants (length ns) r → NineBehind (length (needsFin r ns)) (rabinFin r)
+nine-fin ns RabinWants.lost h = tt
+nine-fin ns (RabinWants.fin m p) h = omega arith
+nine-fin ns (RabinWants.inf m p d) h = tt
+
+nine-close : (n : ℕ) (r : RabinBehind) → NineBehind n r → NineBehind n (rabinClose r)
+nine-close n RabinBehind.lost h = tt
+nine-close n (RabinBehind.pair m p (suc d)) h = h
+nine-close n (RabinBehind.pair zero p zero) h = tt
+nine-close n (RabinBehind.pair (suc m) zero zero) h = h
+nine-close n (RabinBehind.pair (suc m) (suc p) zero) h = h
+nine-close n (RabinBehind.group zero) h = tt
+nine-close n (RabinBehind.group (suc m)) h = h
+
+nine-and : (n : ℕ) (r : RabinBehind) → NineBehind n r → NineWants n (rabinAnd r)
+nine-and n RabinBehind.lost h = tt
+nine-and n (RabinBehind.pair m p d) h = h
+nine-and n (RabinBehind.group m) h = tt
+
+nine-or : (n : ℕ) (r : RabinBehind) → NineBehind n r → NineWants n (rabinOr r)
+nine-or n RabinBehind.lost h = tt
+nine-or n (RabinBehind.pair m p zero) h = omega arith
+nine-or n (RabinBehind.pair m p (suc d)) h = tt
+nine-or n (RabinBehind.group m) h = omega arith
+
+module _ (c d n : ℕ) (ns : List ℕ) where
+  operand-nine : (w : Wants) (p : Piece) → NineStage (length ns) (operand w) → Wherever Nine (onOperand c d n ns w p)
+  operand-nine w piece-is.Left h = 
+      tested Nine (someWants (wantsOpen w)) (state (suc d) n ns (operand (wantsOpen w))) (only-open w (h .0), nine-open (length ns) (w .rabin) (h .1))
+  operand-nine w piece-is.Right h = tt
+  operand-nine w piece-is.And h = tt
+  operand-nine w piece-is.Or h = tt
+  operand-nine w piece-is.Not h = tt
+  operand-nine w piece-is.Inf h = 
+      tested Nine (ltb n c && someBehind (wantsInf w)) (state d (suc n) (needsInf (w .rabin) ns) (named (wantsInf w)))
+      (only-inf w (h .0), subst (λ (k : ℕ). NineBehind k (rabinInf (w .rabin))) (sym (same-needs (w .rabin) ns)) (nine-inf (length ns) (w .rabin) (h .1)))
+  operand-nine w piece-is.Fin h = 
+      tested Nine (ltb n c && someBehind (wantsFin w)) (state d (suc n) (needsFin (w .rabin) ns) (named (wantsFin w))) (only-fin w (h .0), nine-fin ns (w .rabin) (h .1))
+  operand-nine w (piece-is.Truth x) h = tested Nine (someBehind (wantsTruth x w)) (state d n ns (after (wantsTruth x w))) (only-truth x w (h .0), tt)
+  operand-nine w piece-is.Name h = tt
+  operand-nine w (piece-is.Number k) h = tt
+  operand-nine w piece-is.Abort h = tt
+  operand-nine w piece-is.Foreign h = tt
+
+  named-nine : (b : Behind) (p : Piece) → NineStage (length ns) (named b) → Wherever Nine (onNamed d n ns b p)
+  named-nine b piece-is.Left h = h
+  named-nine b piece-is.Right h = tt
+  named-nine b piece-is.And h = tt
+  named-nine b piece-is.Or h = tt
+  named-nine b piece-is.Not h = tt
+  named-nine b piece-is.Inf h = tt
+  named-nine b piece-is.Fin h = tt
+  named-nine b (piece-is.Truth x) h = tt
+  named-nine b piece-is.Name h = tt
+  named-nine b (piece-is.Number k) h = tt
+  named-nine b piece-is.Abort h = tt
+  named-nine b piece-is.Foreign h = tt
+
+  bracket-nine : (b : Behind) (p : Piece) → NineStage (length ns) (bracket b) → Wherever Nine (onBracket d n ns b p)
+  bracket-nine b piece-is.Left h = tt
+  bracket-nine b piece-is.Right h = tt
+  bracket-nine b piece-is.And h = tt
+  bracket-nine b piece-is.Or h = tt
+  bracket-nine b piece-is.Not h = tt
+  bracket-nine b piece-is.Inf h = tt
+  bracket-nine b piece-is.Fin h = tt
+  bracket-nine b (piece-is.Truth x) h = tt
+  bracket-nine b piece-is.Name h = tt
+  bracket-nine b (piece-is.Number k) h = tested Nine (eqb (suc k) n) (state d n ns (number b)) h
+  bracket-nine b piece-is.Abort h = tt
+  bracket-nine b piece-is.Foreign h = tt
+
+  number-nine : (b : Behind) (p : Piece) → NineStage (length ns) (number b) → Wherever Nine (onNumber d n ns b p)
+  number-nine b piece-is.Left h = tt
+  number-nine b piece-is.Right h = h
+  number-nine b piece-is.And h = tt
+  number-nine b piece-is.Or h = tt
+  number-nine b piece-is.Not h = tt
+  number-nine b piece-is.Inf h = tt
+  number-nine b piece-is.Fin h = tt
+  number-nine b (piece-is.Truth x) h = tt
+  number-nine b piece-is.Name h = tt
+  number-nine b (piece-is.Number k) h = tt
+  number-nine b piece-is.Abort h = tt
+  number-nine b piece-is.Foreign h = tt
+
+  closes-nine : (b : Behind) (k : ℕ) → NineStage (length ns) (after b) → Wherever Nine (closes c k n ns b)
+  closes-nine b zero h = tt
+  closes-nine b (suc k) h = tested Nine (someBehind (behindClose b)) (state k n ns (after (behindClose b))) (only-close b (h .0), nine-close (length ns) (b .rabin) (h .1))
+
+  after-nine : (b : Behind) (p : Piece) → NineStage (length ns) (after b) → Wherever Nine (onAfter c d n ns b p)
+  after-nine b piece-is.Left h = at-end Nine d (meaningOf c n ns b) 40
+  after-nine b piece-is.Right h = closes-nine b d h
+  after-nine b piece-is.And h = 
+      tested-twice Nine (ltb n c) (someWants (behindAnd b)) (state d n ns (operand (behindAnd b))) (only-and b (h .0), nine-and (length ns) (b .rabin) (h .1))
+  after-nine b piece-is.Or h = 
+      tested-twice Nine (ltb n c) (someWants (behindOr b)) (state d n ns (operand (behindOr b))) (only-or b (h .0), nine-or (length ns) (b .rabin) (h .1))
+  after-nine b piece-is.Not h = at-end Nine d (meaningOf c n ns b) 40
+  after-nine b piece-is.Inf h = at-end Nine d (meaningOf c n ns b) 40
+  after-nine b piece-is.Fin h = at-end Nine d (meaningOf c n ns b) 40
+  after-nine b (piece-is.Truth x) h = at-end Nine d (meaningOf c n ns b) 40
+  after-nine b piece-is.Name h = at-end Nine d (meaningOf c n ns b) 40
+  after-nine b (piece-is.Number k) h = at-end Nine d (meaningOf c n ns b) 40
+  after-nine b piece-is.Abort h = at-end Nine d (meaningOf c n ns b) 41
+  after-nine b piece-is.Foreign h = at-end Nine d (meaningOf c n ns b) 40
+
+  stage-nine : (g : Stage) (p : Piece) → NineStage (length ns) g → Wherever Nine (onStage c d n ns g p)
+  stage-nine (operand w) p h = operand-nine w p h
+  stage-nine (named b) p h = named-nine b p h
+  stage-nine (bracket b) p h = bracket-nine b p h
+  stage-nine (number b) p h = number-nine b p h
+  stage-nine (after b) p h = after-nine b p h
+
+step-nine : (c : ℕ) (s : FormulaState) (t : Token) → Nine s → Wherever Nine (freeStep c s t)
+unfolding freeStep
+step-nine c s t h = stage-nine c (s .depth) (s .atoms) (s .needs) (s .stage) (formulas.pieceOf t) h
+
+-- ---- at most eight pairs
+
+-- at most eight pairs, and no ninth opens
+abbrev Eight : FormulaState → Type 0
+Eight s = (length (s .needs) ≤ mostPairs) × (tooMany (length (s .needs)) (s .stage) ≡ false)
+
+abbrev Few : FormulaState → Type 0
+Few s = length (s .needs) ≤ mostPairs
+
+few-fin : (ns : List ℕ) (w : Wants) (r : RabinWants) → w .rabin ≡ r → length ns ≤ mostPairs → leb mostPairs (length ns) && opensPair r ≡ false → length (needsFin r ns) ≤ mostPairs
+few-fin ns w RabinWants.lost q h k = h
+few-fin ns w (RabinWants.fin m p) q h k = leb-false mostPairs (length ns) (not-opens (leb mostPairs (length ns)) k)
+  where
+    not-opens : (x : Bool) → x && true ≡ false → x ≡ false
+    not-opens true e = e
+    not-opens false e = refl
+few-fin ns w (RabinWants.inf m p d) q h k = h
+
+module _ (c d n : ℕ) (ns : List ℕ) (h : length ns ≤ mostPairs) where
+  operand-few : (w : Wants) (p : Piece) → leb mostPairs (length ns) && opensPair (w .rabin) ≡ false → Wherever Few (onOperand c d n ns w p)
+  operand-few w piece-is.Left k = tested Few (someWants (wantsOpen w)) (state (suc d) n ns (operand (wantsOpen w))) h
+  operand-few w piece-is.Right k = tt
+  operand-few w piece-is.And k = tt
+  operand-few w piece-is.Or k = tt
+  operand-few w piece-is.Not k = tt
+  operand-few w piece-is.Inf k = 
+      tested Few (ltb n c && someBehind (wantsInf w)) (state d (suc n) (needsInf (w .rabin) ns) (named (wantsInf w))) (omega (arith, same-needs (w .rabin) ns))
+  operand-few w piece-is.Fin k = 
+      tested Few (ltb n c && someBehind (wantsFin w)) (state d (suc n) (needsFin (w .rabin) ns) (named (wantsFin w))) (few-fin ns w (w .rabin) refl h k)
+  operand-few w (piece-is.Truth x) k = tested Few (someBehind (wantsTruth x w)) (state d n ns (after (wantsTruth x w))) h
+  operand-few w piece-is.Name k = tt
+  operand-few w (piece-is.Number i) k = tt
+  operand-few w piece-is.Abort k = tt
+  operand-few w piece-is.Foreign k = tt
+
+  named-few : (b : Behind) (p : Piece) → Wherever Few (onNamed d n ns b p)
+  named-few b piece-is.Left = h
+  named-few b piece-is.Right = tt
+  named-few b piece-is.And = tt
+  named-few b piece-is.Or = tt
+  named-few b piece-is.Not = tt
+  named-few b piece-is.Inf = tt
+  named-few b piece-is.Fin = tt
+  named-few b (piece-is.Truth x) = tt
+  named-few b piece-is.Name = tt
+  named-few b (piece-is.Number k) = tt
+  named-few b piece-is.Abort = tt
+  named-few b piece-is.Foreign = tt
+
+  bracket-few : (b : Behind) (p : Piece) → Wherever Few (onBracket d n ns b p)
+  bracket-few b piece-is.Left = tt
+  bracket-few b piece-is.Right = tt
+  bracket-few b piece-is.And = tt
+  bracket-few b piece-is.Or = tt
+  bracket-few b piece-is.Not = tt
+  bracket-few b piece-is.Inf = tt
+  bracket-few b piece-is.Fin = tt
+  bracket-few b (piece-is.Truth x) = tt
+  bracket-few b piece-is.Name = tt
+  bracket-few b (piece-is.Number k) = tested Few (eqb (suc k) n) (state d n ns (number b)) h
+  bracket-few b piece-is.Abort = tt
+  bracket-few b piece-is.Foreign = tt
+
+  number-few : (b : Behind) (p : Piece) → Wherever Few (onNumber d n ns b p)
+  number-few b piece-is.Left = tt
+  number-few b piece-is.Right = h
+  number-few b piece-is.And = tt
+  number-few b piece-is.Or = tt
+  number-few b piece-is.Not = tt
+  number-few b piece-is.Inf = tt
+  number-few b piece-is.Fin = tt
+  number-few b (piece-is.Truth x) = tt
+  number-few b piece-is.Name = tt
+  number-few b (piece-is.Number k) = tt
+  number-few b piece-is.Abort = tt
+  number-few b piece-is.Foreign = tt
+
+  closes-few : (b : Behind) (k : ℕ) → Wherever Few (closes c k n ns b)
+  closes-few b zero = tt
+  closes-few b (suc k) = tested Few (someBehind (behindClose b)) (state k n ns (after (behindClose b))) h
+
+  after-few : (b : Behind) (p : Piece) → Wherever Few (onAfter c d n ns b p)
+  after-few b piece-is.Left = at-end Few d (meaningOf c n ns b) 40
+  after-few b piece-is.Right = closes-few b d
+  after-few b piece-is.And = tested-twice Few (ltb n c) (someWants (behindAnd b)) (state d n ns (operand (behindAnd b))) h
+  after-few b piece-is.Or = tested-twice Few (ltb n c) (someWants (behindOr b)) (state d n ns (operand (behindOr b))) h
+  after-few b piece-is.Not = at-end Few d (meaningOf c n ns b) 40
+  after-few b piece-is.Inf = at-end Few d (meaningOf c n ns b) 40
+  after-few b piece-is.Fin = at-end Few d (meaningOf c n ns b) 40
+  after-few b (piece-is.Truth x) = at-end Few d (meaningOf c n ns b) 40
+  after-few b piece-is.Name = at-end Few d (meaningOf c n ns b) 40
+  after-few b (piece-is.Number k) = at-end Few d (meaningOf c n ns b) 40
+  after-few b piece-is.Abort = at-end Few d (meaningOf c n ns b) 41
+  after-few b piece-is.Foreign = at-end Few d (meaningOf c n ns b) 40
+
+  stage-few : (g : Stage) (p : Piece) → tooMany (length ns) g ≡ false → Wherever Few (onStage c d n ns g p)
+  stage-few (operand w) p k = operand-few w p k
+  stage-few (named b) p k = named-few b p
+  stage-few (bracket b) p k = bracket-few b p
+  stage-few (number b) p k = number-few b p
+  stage-few (after b) p k = after-few b p
+
+step-few : (c : ℕ) (s : FormulaState) (t : Token) → Eight s → Wherever Few (freeStep c s t)
+unfolding freeStep
+step-few c s t h = stage-few c (s .depth) (s .atoms) (s .needs) (h .0) (s .stage) (formulas.pieceOf t) (h .1)

@@ -140,11 +140,14 @@ truth-cond Truth.truth ts = refl
 truth-cond Truth.falsity ts = refl
 truth-cond (Truth.brackets x) ts = ap left (truth-cond x (right ts))
 
--- every standard text is a section-2 text
-pub std-is-cond : (x : Std) (ts : List Token) → (y : Cond) × (condText y ts ≡ stdText x ts)
+-- every standard text is a section-2 text, whatever follows it
+pub std-cond : (x : Std) → (y : Cond) × ((ts : List Token) → condText y ts ≡ stdText x ts)
 unfolding stdText condText cconjText
-std-is-cond (Std.infs x) ts = (Cond.one (infsConj x 0), infs-cond x 0 ts)
-std-is-cond (Std.rabin x) ts = (rabinCond x 0, rabin-cond x 0 ts)
-std-is-cond (Std.streett x) ts = (Cond.one (streettConj x 0), streett-cond x 0 ts)
-std-is-cond (Std.spair x) ts = (spairCond x 0, spair-cond x 0 ts)
-std-is-cond (Std.truth x) ts = (Cond.one (Cconj.single (truthAtom x)), truth-cond x ts)
+std-cond (Std.infs x) = (Cond.one (infsConj x 0), λ ts. infs-cond x 0 ts)
+std-cond (Std.rabin x) = (rabinCond x 0, λ ts. rabin-cond x 0 ts)
+std-cond (Std.streett x) = (Cond.one (streettConj x 0), λ ts. streett-cond x 0 ts)
+std-cond (Std.spair x) = (spairCond x 0, λ ts. spair-cond x 0 ts)
+std-cond (Std.truth x) = (Cond.one (Cconj.single (truthAtom x)), λ ts. truth-cond x ts)
+
+pub std-is-cond : (x : Std) (ts : List Token) → (y : Cond) × (condText y ts ≡ stdText x ts)
+std-is-cond x ts = (std-cond x .0, std-cond x .1 ts)

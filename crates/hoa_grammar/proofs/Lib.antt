@@ -1,5 +1,7 @@
 -- Pairs: the limit of pairs in a formula
 pub mod Pairs
+-- FormulaTexts: formulas in a header
+pub mod FormulaTexts
 -- Onward: a stretch leads on, or passes a limit
 pub mod Onward
 -- Names: the same bytes

@@ -23,7 +23,7 @@ use Rattle.hoa_formula.specs.Formulas.{FormulaState, FormulaStep, go, over, wro
 
 -- ---- what holds wherever a step goes
 
-abbrev Wherever : (FormulaState → Type 0) → FormulaStep → Type 0
+abbrev pub Wherever : (FormulaState → Type 0) → FormulaStep → Type 0
 Wherever P (go s) = P s
 Wherever P (over m) = Unit {0}
 Wherever P (wrong k) = Unit {0}
@@ -44,69 +44,69 @@ module _ (P : FormulaState → Type 0) where
 -- ---- what stands beside the Rabin machine
 
 -- behind an operand: a Streett pair or a bare pair has at most its Fin, and then one pair is open
-abbrev FinAtMost : ℕ → StreettBehind → Type 0
+abbrev pub FinAtMost : ℕ → StreettBehind → Type 0
 FinAtMost n StreettBehind.lost = Unit {0}
 FinAtMost n (StreettBehind.fin m u) = n ≤ 1
 FinAtMost n (StreettBehind.inf m v) = ⊥
 FinAtMost n (StreettBehind.pair m) = ⊥
 
-abbrev BareFin : ℕ → Bare → Type 0
+abbrev pub BareFin : ℕ → Bare → Type 0
 BareFin n Bare.lost = Unit {0}
 BareFin n (Bare.fin x) = n ≤ 1
 BareFin n (Bare.inf x) = ⊥
 
 -- where the next pair opens: a Streett pair or a bare pair wants its Inf, and then one pair was read
-abbrev InfAtMost : ℕ → StreettWants → Type 0
+abbrev pub InfAtMost : ℕ → StreettWants → Type 0
 InfAtMost n StreettWants.lost = Unit {0}
 InfAtMost n (StreettWants.fin m u) = ⊥
 InfAtMost n (StreettWants.inf m v) = n ≤ 1
 
-abbrev BareInf : ℕ → Bare → Type 0
+abbrev pub BareInf : ℕ → Bare → Type 0
 BareInf n Bare.lost = Unit {0}
 BareInf n (Bare.fin x) = ⊥
 BareInf n (Bare.inf x) = n ≤ 1
 
 -- behind an operand with n pairs so far
-record Alone (n : ℕ) (b : Behind) : Type 0 where
-  some : 1 ≤ n
-  buchi-lost : b .buchi ≡ Buchi.lost
-  truth-lost : b .truth ≡ TruthBehind.lost
-  streett-fin : FinAtMost n (b .streett)
-  bare-fin : BareFin n (b .bare)
+pub record Alone (n : ℕ) (b : Behind) : Type 0 where
+  pub some : 1 ≤ n
+  pub buchi-lost : b .buchi ≡ Buchi.lost
+  pub truth-lost : b .truth ≡ TruthBehind.lost
+  pub streett-fin : FinAtMost n (b .streett)
+  pub bare-fin : BareFin n (b .bare)
 
 -- where a pair opens, behind n pairs
-record Opening (n : ℕ) (w : Wants) : Type 0 where
-  buchi-lost : w .buchi ≡ Buchi.lost
-  truth-lost : w .truth ≡ TruthWants.lost
-  streett-inf : InfAtMost n (w .streett)
-  bare-inf : BareInf n (w .bare)
+pub record Opening (n : ℕ) (w : Wants) : Type 0 where
+  pub buchi-lost : w .buchi ≡ Buchi.lost
+  pub truth-lost : w .truth ≡ TruthWants.lost
+  pub streett-inf : InfAtMost n (w .streett)
+  pub bare-inf : BareInf n (w .bare)
 
 -- where a needed mark is wanted
-record Needing (n : ℕ) (w : Wants) : Type 0 where
-  some : 1 ≤ n
-  buchi-lost : w .buchi ≡ Buchi.lost
-  truth-lost : w .truth ≡ TruthWants.lost
-  streett-lost : w .streett ≡ StreettWants.lost
-  bare-lost : w .bare ≡ Bare.lost
+pub record Needing (n : ℕ) (w : Wants) : Type 0 where
+  pub some : 1 ≤ n
+  pub buchi-lost : w .buchi ≡ Buchi.lost
+  pub truth-lost : w .truth ≡ TruthWants.lost
+  pub streett-lost : w .streett ≡ StreettWants.lost
+  pub bare-lost : w .bare ≡ Bare.lost
 
-abbrev BesideBehind : ℕ → RabinBehind → Behind → Type 0
+abbrev pub BesideBehind : ℕ → RabinBehind → Behind → Type 0
 BesideBehind n RabinBehind.lost b = Unit {0}
 BesideBehind n (RabinBehind.pair m p d) b = Alone n b
 BesideBehind n (RabinBehind.group m) b = Alone n b
 
-abbrev BesideWants : ℕ → RabinWants → Wants → Type 0
+abbrev pub BesideWants : ℕ → RabinWants → Wants → Type 0
 BesideWants n RabinWants.lost w = Unit {0}
 BesideWants n (RabinWants.fin m p) w = 0 < n → Opening n w
 BesideWants n (RabinWants.inf m p d) w = Needing n w
 
-abbrev BesideStage : ℕ → Stage → Type 0
+abbrev pub BesideStage : ℕ → Stage → Type 0
 BesideStage n (operand w) = BesideWants n (w .rabin) w
 BesideStage n (named b) = BesideBehind n (b .rabin) b
 BesideStage n (bracket b) = BesideBehind n (b .rabin) b
 BesideStage n (number b) = BesideBehind n (b .rabin) b
 BesideStage n (after b) = BesideBehind n (b .rabin) b
 
-abbrev Beside : FormulaState → Type 0
+abbrev pub Beside : FormulaState → Type 0
 Beside s = BesideStage (length (s .needs)) (s .stage)
 
 -- ---- each token keeps it
@@ -339,44 +339,44 @@ module _ (c d n : ℕ) (ns : List ℕ) where
   stage-beside (after b) p h = after-beside b p h
 
 -- what stands beside the Rabin machine, from token to token
-step-beside : (c : ℕ) (s : FormulaState) (t : Token) → Beside s → Wherever Beside (freeStep c s t)
+pub step-beside : (c : ℕ) (s : FormulaState) (t : Token) → Beside s → Wherever Beside (freeStep c s t)
 unfolding freeStep
 step-beside c s t h = stage-beside c (s .depth) (s .atoms) (s .needs) (s .stage) (formulas.pieceOf t) h
 
 -- ---- nine pairs
 
 -- only the Rabin machine can go on
-record OnlyWants (w : Wants) : Type 0 where
-  buchi-lost : w .buchi ≡ Buchi.lost
-  truth-lost : w .truth ≡ TruthWants.lost
-  streett-lost : w .streett ≡ StreettWants.lost
-  bare-lost : w .bare ≡ Bare.lost
+pub record OnlyWants (w : Wants) : Type 0 where
+  pub buchi-lost : w .buchi ≡ Buchi.lost
+  pub truth-lost : w .truth ≡ TruthWants.lost
+  pub streett-lost : w .streett ≡ StreettWants.lost
+  pub bare-lost : w .bare ≡ Bare.lost
 
-record OnlyBehind (b : Behind) : Type 0 where
-  buchi-lost : b .buchi ≡ Buchi.lost
-  truth-lost : b .truth ≡ TruthBehind.lost
-  streett-lost : b .streett ≡ StreettBehind.lost
-  bare-lost : b .bare ≡ Bare.lost
+pub record OnlyBehind (b : Behind) : Type 0 where
+  pub buchi-lost : b .buchi ≡ Buchi.lost
+  pub truth-lost : b .truth ≡ TruthBehind.lost
+  pub streett-lost : b .streett ≡ StreettBehind.lost
+  pub bare-lost : b .bare ≡ Bare.lost
 
 -- nine pairs, or eight and one that opens
-abbrev NineWants : ℕ → RabinWants → Type 0
+abbrev pub NineWants : ℕ → RabinWants → Type 0
 NineWants n RabinWants.lost = Unit {0}
 NineWants n (RabinWants.fin m p) = mostPairs ≤ n
 NineWants n (RabinWants.inf m p d) = mostPairs < n
 
-abbrev NineBehind : ℕ → RabinBehind → Type 0
+abbrev pub NineBehind : ℕ → RabinBehind → Type 0
 NineBehind n RabinBehind.lost = Unit {0}
 NineBehind n (RabinBehind.pair m p d) = mostPairs < n
 NineBehind n (RabinBehind.group m) = mostPairs < n
 
-abbrev NineStage : ℕ → Stage → Type 0
+abbrev pub NineStage : ℕ → Stage → Type 0
 NineStage n (operand w) = OnlyWants w × NineWants n (w .rabin)
 NineStage n (named b) = OnlyBehind b × NineBehind n (b .rabin)
 NineStage n (bracket b) = OnlyBehind b × NineBehind n (b .rabin)
 NineStage n (number b) = OnlyBehind b × NineBehind n (b .rabin)
 NineStage n (after b) = OnlyBehind b × NineBehind n (b .rabin)
 
-abbrev Nine : FormulaState → Type 0
+abbrev pub Nine : FormulaState → Type 0
 Nine s = NineStage (length (s .needs)) (s .stage)
 
 only-open : (w : Wants) → OnlyWants w → OnlyWants (wantsOpen w)
@@ -525,17 +525,17 @@ module _ (c d n : ℕ) (ns : List ℕ) where
   stage-nine (number b) p h = number-nine b p h
   stage-nine (after b) p h = after-nine b p h
 
-step-nine : (c : ℕ) (s : FormulaState) (t : Token) → Nine s → Wherever Nine (freeStep c s t)
+pub step-nine : (c : ℕ) (s : FormulaState) (t : Token) → Nine s → Wherever Nine (freeStep c s t)
 unfolding freeStep
 step-nine c s t h = stage-nine c (s .depth) (s .atoms) (s .needs) (s .stage) (formulas.pieceOf t) h
 
 -- ---- at most eight pairs
 
 -- at most eight pairs, and no ninth opens
-abbrev Eight : FormulaState → Type 0
+abbrev pub Eight : FormulaState → Type 0
 Eight s = (length (s .needs) ≤ mostPairs) × (tooMany (length (s .needs)) (s .stage) ≡ false)
 
-abbrev Few : FormulaState → Type 0
+abbrev pub Few : FormulaState → Type 0
 Few s = length (s .needs) ≤ mostPairs
 
 few-fin : (ns : List ℕ) (w : Wants) (r : RabinWants) → w .rabin ≡ r → length ns ≤ mostPairs → leb mostPairs (length ns) && opensPair r ≡ false → length (needsFin r ns) ≤ mostPairs
@@ -631,6 +631,6 @@ module _ (c d n : ℕ) (ns : List ℕ) (h : length ns ≤ mostPairs) where
   stage-few (number b) p k = number-few b p
   stage-few (after b) p k = after-few b p
 
-step-few : (c : ℕ) (s : FormulaState) (t : Token) → Eight s → Wherever Few (freeStep c s t)
+pub step-few : (c : ℕ) (s : FormulaState) (t : Token) → Eight s → Wherever Few (freeStep c s t)
 unfolding freeStep
 step-few c s t h = stage-few c (s .depth) (s .atoms) (s .needs) (h .0) (s .stage) (formulas.pieceOf t) (h .1)

@@ -1,0 +1,224 @@
+-- Formulas in a header: a standard formula is walked to its end, or passes the limit of pairs (`formula-walk`); tokens that lead to the end of a formula are a
+-- standard one (`formula-read`). Assumes nothing.
+use mathlib.Core.Bool.{Bool, true, false, false≢true, cond, _&&_, _||_}
+use mathlib.Core.List.{List, [], _∷_, _++_}
+use mathlib.Core.Path.{_≡_, refl, sym, ap, subst, _∙_}
+use Prim.Native.Nat.{ℕ, zero, suc, _+_, _/_, _≤_, _<_, zero-le}
+use native.Mathlib.Omega.{arith}
+use borrow.Author.Tests.{leb-true, leb-false}
+use lib.Dec.{leb, ltb}
+use lib.ListN.{length}
+use Rattle.table.specs.declared.Acceptance.{Acceptance}
+use Rattle.table.specs.declared.Acceptance.the-variants as acceptance
+use Rattle.hoa_tokens.specs.declared.Word.{Word}
+use Rattle.hoa_tokens.specs.declared.Word.the-variants as word-is
+use Rattle.hoa_tokens.specs.Token.{Token, header, body}
+use Rattle.hoa_formula.specs.Cond.{Cond, condText}
+use Rattle.hoa_formula.specs.Standard.{FormulaMeaning, standard, short, mostPairs, noNeeds, rabinMeaning, Infs, Infop, infsText, infopText, infsEnd, infopEnd, Pair, Phead, pairText, pheadText, pairEnd, pheadEnd,
+  Rabin, Rabop, rabinText, rabopText, rabinEnd, rabopEnd, Single, Spair, singleText, spairText, Streett, Strop, streettText, stropText, stropEnd, Truth, truthText, Std, stdText, IsStd, stdMeaning,
+  both, either, left, right, atom}
+use Rattle.hoa_formula.specs.Machines.{RabinWants, RabinBehind, StreettWants, Bare, TruthBehind, Wants, Behind, begin, buchiDone, rabinDone, streettDone, bareDone}
+use Rattle.hoa_formula.specs.Formulas as formula
+use Rattle.hoa_formula.specs.Formulas.{FormulaState, FormulaStep, Stage, operand, named, bracket, number, after, formulaBegin, freeStep, formulaStep, tooMany, limited, opensPair, meaningOf, byDone}
+use Rattle.hoa_formula.specs.Walking.{freeWalk, andOn, Stands}
+use Rattle.hoa_formula.proofs.Admitted as admitted
+use Rattle.hoa_formula.proofs.Sound as sounds
+use Rattle.hoa_formula.proofs.Accepted.{over-stands, limit-over, limit-go}
+use Rattle.hoa_formula.proofs.Conds.{std-cond}
+use Rattle.hoa_grammar.specs.Subset.{StandardAs, pairsIn}
+use Rattle.hoa_grammar.proofs.Pairs.{Wherever, InfAtMost, BareInf, BesideWants, BesideStage, OnlyWants, OnlyBehind, NineWants, NineBehind, NineStage, Beside, Nine, Eight, Few, step-beside, step-nine, step-few}
+
+-- ---- what follows a formula's text
+
+mutual
+  unfolding infsText
+  infs-more : (x : Infs) (i : ℕ) (ts us : List Token) → infsText x i (ts ++ us) ≡ infsText x i ts ++ us
+  infs-more (Infs.one x) i ts us = infop-more x i ts us
+  infs-more (Infs.more x y) i ts us =
+      ap (λ (vs : List Token). infopText x i (both vs)) (infs-more y (infopEnd x i) ts us) ∙ infop-more x i (both (infsText y (infopEnd x i) ts)) us
+
+  infop-more : (x : Infop) (i : ℕ) (ts us : List Token) → infopText x i (ts ++ us) ≡ infopText x i ts ++ us
+  infop-more Infop.mark i ts us = refl
+  infop-more (Infop.brackets x) i ts us = ap left (infs-more x i (right ts) us)
+
+mutual
+  unfolding pairText
+  pair-more : (x : Pair) (i : ℕ) (ts us : List Token) → pairText x i (ts ++ us) ≡ pairText x i ts ++ us
+  pair-more (Pair.alone x) i ts us = phead-more x i ts us
+  pair-more (Pair.needing x y) i ts us =
+      ap (λ (vs : List Token). pheadText x i (both vs)) (infs-more y (pheadEnd x i) ts us) ∙ phead-more x i (both (infsText y (pheadEnd x i) ts)) us
+
+  phead-more : (x : Phead) (i : ℕ) (ts us : List Token) → pheadText x i (ts ++ us) ≡ pheadText x i ts ++ us
+  phead-more Phead.mark i ts us = refl
+  phead-more (Phead.brackets x) i ts us = ap left (pair-more x i (right ts) us)
+
+mutual
+  unfolding rabinText
+  rabin-more : (x : Rabin) (i : ℕ) (ts us : List Token) → rabinText x i (ts ++ us) ≡ rabinText x i ts ++ us
+  rabin-more (Rabin.one x) i ts us = rabop-more x i ts us
+  rabin-more (Rabin.more x y) i ts us =
+      ap (λ (vs : List Token). rabopText x i (either vs)) (rabin-more y (rabopEnd x i) ts us) ∙ rabop-more x i (either (rabinText y (rabopEnd x i) ts)) us
+
+  rabop-more : (x : Rabop) (i : ℕ) (ts us : List Token) → rabopText x i (ts ++ us) ≡ rabopText x i ts ++ us
+  rabop-more (Rabop.pair x) i ts us = pair-more x i ts us
+  rabop-more (Rabop.brackets x) i ts us = ap left (rabin-more x i (right ts) us)
+
+single-more : (x : Single) (w : Word) (i : ℕ) (ts us : List Token) → singleText x w i (ts ++ us) ≡ singleText x w i ts ++ us
+unfolding singleText
+single-more Single.mark w i ts us = refl
+single-more (Single.brackets x) w i ts us = ap left (single-more x w i (right ts) us)
+
+spair-more : (x : Spair) (i : ℕ) (ts us : List Token) → spairText x i (ts ++ us) ≡ spairText x i ts ++ us
+unfolding spairText
+spair-more x i ts us =
+    ap (λ (vs : List Token). singleText (x .fin) word-is.Fin i (either vs)) (single-more (x .inf) word-is.Inf (suc i) ts us)
+    ∙ single-more (x .fin) word-is.Fin i (either (singleText (x .inf) word-is.Inf (suc i) ts)) us
+
+mutual
+  unfolding streettText
+  streett-more : (x : Streett) (i : ℕ) (ts us : List Token) → streettText x i (ts ++ us) ≡ streettText x i ts ++ us
+  streett-more (Streett.one x) i ts us = strop-more x i ts us
+  streett-more (Streett.more x y) i ts us =
+      ap (λ (vs : List Token). stropText x i (both vs)) (streett-more y (stropEnd x i) ts us) ∙ strop-more x i (both (streettText y (stropEnd x i) ts)) us
+
+  strop-more : (x : Strop) (i : ℕ) (ts us : List Token) → stropText x i (ts ++ us) ≡ stropText x i ts ++ us
+  strop-more (Strop.pair x) i ts us = ap left (spair-more x i (right ts) us)
+  strop-more (Strop.brackets x) i ts us = ap left (streett-more x i (right ts) us)
+
+truth-more : (x : Truth) (ts us : List Token) → truthText x (ts ++ us) ≡ truthText x ts ++ us
+unfolding truthText
+truth-more Truth.truth ts us = refl
+truth-more Truth.falsity ts us = refl
+truth-more (Truth.brackets x) ts us = ap left (truth-more x (right ts) us)
+
+-- a formula's text, and then what follows it
+std-more : (x : Std) (us : List Token) → stdText x us ≡ stdText x [] ++ us
+unfolding stdText
+std-more (Std.infs x) us = infs-more x 0 [] us
+std-more (Std.rabin x) us = rabin-more x 0 [] us
+std-more (Std.streett x) us = streett-more x 0 [] us
+std-more (Std.spair x) us = spair-more x 0 [] us
+std-more (Std.truth x) us = truth-more x [] us
+
+-- ---- how many pairs a formula has where it is over
+
+abbrev isStandard : FormulaMeaning → Type 0
+isStandard (standard a ns) = Unit {0}
+isStandard short = ⊥
+
+abbrev pairsOr : ℕ → FormulaMeaning → ℕ
+pairsOr n (standard a ns) = pairsIn a
+pairsOr n short = n
+
+-- the pairs of what is complete: none, or those of the Rabin machine
+by-truth : (n : ℕ) (t : TruthBehind) → pairsOr n (formula.truthDone t) ≤ n
+by-truth n TruthBehind.lost = omega arith
+by-truth n (TruthBehind.is true zero) = zero-le
+by-truth n (TruthBehind.is false zero) = zero-le
+by-truth n (TruthBehind.is true (suc d)) = omega arith
+by-truth n (TruthBehind.is false (suc d)) = omega arith
+
+by-tests : (x y z : Bool) (c : ℕ) (ns : List ℕ) (t : TruthBehind)
+    → pairsOr (length ns)
+    (cond x (standard (acceptance.Buchi c) noNeeds) (cond y (rabinMeaning ns) (cond z (standard (acceptance.Streett (c / 2)) noNeeds) (formula.truthDone t))))
+    ≤ length ns
+by-tests true y z c ns t = zero-le
+by-tests false true z c ns t = omega arith
+by-tests false false true c ns t = zero-le
+by-tests false false false c ns t = by-truth (length ns) t
+
+over-pairs : (c n : ℕ) (ns : List ℕ) (b : Behind) → pairsOr (length ns) (meaningOf c n ns b) ≤ length ns
+unfolding meaningOf
+over-pairs c n ns b = by-count (ltb n c)
+  where
+    by-count : (x : Bool) → pairsOr (length ns) (cond x short (byDone c ns b)) ≤ length ns
+    by-count true = omega arith
+    by-count false =
+        by-tests (buchiDone (b .buchi)) (rabinDone (b .rabin)) (streettDone (b .streett) || bareDone (b .bare)) c ns (b .truth)
+
+-- a formula that is over has no more pairs than were counted
+stands-pairs : (c : ℕ) (s : FormulaState) (a : Acceptance) (ns : List ℕ) → Stands c s (standard a ns) → pairsIn a ≤ length (s .needs)
+stands-pairs c s a ns h = subst (λ (m : FormulaMeaning). pairsOr (length (s .needs)) m ≤ length (s .needs)) (h .means) (over-pairs c (s .atoms) (s .needs) (h .behind))
+
+-- where only the Rabin machine goes on, it alone can be complete
+done-only : (c : ℕ) (ns : List ℕ) (b : Behind) → OnlyBehind b → byDone c ns b ≡ cond (rabinDone (b .rabin)) (rabinMeaning ns) short
+done-only c ns b o = rw (o .buchi-lost, o .streett-lost, o .bare-lost, o .truth-lost) refl
+
+nine-tests : (r : RabinBehind) (ns : List ℕ) (a : Acceptance) (ms : List ℕ) → NineBehind (length ns) r → cond (rabinDone r) (rabinMeaning ns) short ≡ standard a ms
+    → mostPairs < pairsIn a
+nine-tests RabinBehind.lost ns a ms h e = absurd (subst isStandard (sym e) tt)
+nine-tests (RabinBehind.pair m p d) ns a ms h e = by (rabinDone (RabinBehind.pair m p d)) e
+  where
+    by : (x : Bool) → cond x (rabinMeaning ns) short ≡ standard a ms → mostPairs < pairsIn a
+    by true e = subst (λ (n : ℕ). mostPairs < n) (ap (pairsOr 0) e) h
+    by false e = absurd (subst isStandard (sym e) tt)
+nine-tests (RabinBehind.group m) ns a ms h e = by (rabinDone (RabinBehind.group m)) e
+  where
+    by : (x : Bool) → cond x (rabinMeaning ns) short ≡ standard a ms → mostPairs < pairsIn a
+    by true e = subst (λ (n : ℕ). mostPairs < n) (ap (pairsOr 0) e) h
+    by false e = absurd (subst isStandard (sym e) tt)
+
+nine-stands : (c : ℕ) (s : FormulaState) (a : Acceptance) (ms : List ℕ) → Nine s → Stands c s (standard a ms) → mostPairs < pairsIn a
+unfolding meaningOf
+nine-stands c s a ms h st =
+    let k : OnlyBehind (st .behind) × NineBehind (length (s .needs)) (st .behind .rabin) = subst (NineStage (length (s .needs))) (st .stage) h in
+    nine-tests (st .behind .rabin) (s .needs) a ms (k .1)
+    (sym (done-only c (s .needs) (st .behind) (k .0)) ∙ all-atoms (ltb (s .atoms) c) (st .means))
+  where
+    all-atoms : (x : Bool) → cond x short (byDone c (s .needs) (st .behind)) ≡ standard a ms → byDone c (s .needs) (st .behind) ≡ standard a ms
+    all-atoms true e = absurd (subst isStandard (sym e) tt)
+    all-atoms false e = e
+
+-- ---- walks
+
+abbrev goOr : FormulaState → FormulaStep → FormulaState
+goOr d (formula.go s) = s
+goOr d (formula.over m) = d
+goOr d (formula.wrong k) = d
+
+abbrev goes : FormulaStep → Type 0
+goes (formula.go s) = Unit {0}
+goes (formula.over m) = ⊥
+goes (formula.wrong k) = ⊥
+
+-- what holds wherever a step goes holds of a walk
+keeps : (c : ℕ) (P : FormulaState → Type 0) → ((s : FormulaState) (t : Token) → P s → Wherever P (freeStep c s t))
+    → (ts : List Token) (s f : FormulaState) → P s → freeWalk c s ts ≡ formula.go f → P f
+unfolding freeWalk
+keeps c P k [] s f h e = subst P (ap (goOr s) e) h
+keeps c P k (t ∷ ts) s f h e = by (freeStep c s t) (k s t h) (λ u. keeps c P k ts u f) e
+  where
+    by : (x : FormulaStep) → Wherever P x → ((u : FormulaState) → P u → freeWalk c u ts ≡ formula.go f → P f) → andOn x (λ u. freeWalk c u ts) ≡ formula.go f → P f
+    by (formula.go u) h more e = more u h e
+    by (formula.over m) h more e = absurd (subst goes (sym e) tt)
+    by (formula.wrong n) h more e = absurd (subst goes (sym e) tt)
+
+-- where a ninth pair opens only the Rabin machine goes on
+lost-streett : (n : ℕ) (s : StreettWants) → mostPairs ≤ n → InfAtMost n s → s ≡ StreettWants.lost
+lost-streett n StreettWants.lost l h = refl
+lost-streett n (StreettWants.fin m u) l h = absurd h
+lost-streett n (StreettWants.inf m v) l h = absurd (omega arith)
+
+lost-bare : (n : ℕ) (x : Bare) → mostPairs ≤ n → BareInf n x → x ≡ Bare.lost
+lost-bare n Bare.lost l h = refl
+lost-bare n (Bare.fin x) l h = absurd h
+lost-bare n (Bare.inf x) l h = absurd (omega arith)
+
+both-true : (x y : Bool) → x && y ≡ true → (x ≡ true) × (y ≡ true)
+both-true true y e = (refl, e)
+both-true false y e = absurd (false≢true e)
+
+opens-nine : (n : ℕ) (w : Wants) (r : RabinWants) → leb mostPairs n && opensPair r ≡ true → BesideWants n r w → OnlyWants w × NineWants n r
+opens-nine n w RabinWants.lost e h = absurd (false≢true (both-true (leb mostPairs n) false e .1))
+opens-nine n w (RabinWants.fin m p) e h =
+    let l : mostPairs ≤ n = leb-true mostPairs n (both-true (leb mostPairs n) true e .0) in
+    let o = h (omega arith) in
+    (record { buchi-lost = o .buchi-lost; truth-lost = o .truth-lost; streett-lost = lost-streett n (w .streett) l (o .streett-inf); bare-lost = lost-bare n (w .bare) l (o .bare-inf) }, l)
+opens-nine n w (RabinWants.inf m p d) e h = absurd (false≢true (both-true (leb mostPairs n) false e .1))
+
+nine-opens : (n : ℕ) (g : Stage) → tooMany n g ≡ true → BesideStage n g → NineStage n g
+nine-opens n (operand w) e h = opens-nine n w (w .rabin) e h
+nine-opens n (named b) e h = absurd (false≢true e)
+nine-opens n (bracket b) e h = absurd (false≢true e)
+nine-opens n (number b) e h = absurd (false≢true e)
+nine-opens n (after b) e h = absurd (false≢true e)

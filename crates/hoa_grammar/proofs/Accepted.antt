@@ -34,7 +34,7 @@ use Rattle.hoa_grammar.proofs.RowTakes.{TakesRow, RowLimit, TakesRows, 
 use Rattle.hoa_grammar.proofs.Takes.{TakesAll}
 use Rattle.hoa_grammar.proofs.Heads.{AllLimits}
 use Rattle.hoa_grammar.proofs.HeadSound as heads
-use Rattle.hoa_grammar.proofs.HeadSound.{FormulaSound}
+use Rattle.hoa_grammar.proofs.FormulaTexts.{formula-sound}
 use Rattle.hoa_grammar.proofs.RowSound as bodies
 use Rattle.hoa_grammar.proofs.Ahead.{Goal, goalOf, Settles, nowhere, ahead, before, StartIs, Agree, GoalLimited, takes-ahead, takes-agree, takes-limited}
 use Rattle.hoa_grammar.proofs.RowsAhead.{RowsSaid, rows-say, flat-rows, few-rows}
@@ -74,6 +74,7 @@ parts text j e = by-head (headEnd text) refl e
         record { head = h; left = ps; head-is = q; kept = k; rest = qs; rows-are = r; job-is = ap (jobOr (jobOf h k)) e }
     by-rows h ps q (wrongAt n p) r e = fault-job e
     by-rows h ps q cut r e = fault-job e
+
     by-head : (x : End Head) → headEnd text ≡ x → headSays x ≡ job j → Parts text j
     by-head (doneAt h ps) q e = by-rows h ps q (run (rowStep (limitsOf h)) ps (entries (noRows (limitsOf h .start)))) refl e
     by-head (wrongAt n p) q e = fault-job e
@@ -185,10 +186,9 @@ count-value g f last (counted q _) m e = no-both g m q e
 count-value g f last (said n q c _) m e = c ∙ value-is (sym q ∙ e)
 
 module _ (h : Head) (is : List Item) (rs : List Row) (last : Rows) (fit : TakesAll blank is h) (few : AllLimits fit)
-  (started : isGiven (h .start) ≡ true) (accepting : isGiven (h .marks) ≡ true)
-  (rows-fit : TakesRows (limitsOf h) (noRows (limitsOf h .start)) rs last) (rows-few : RowsLimit (limitsOf h) rows-fit)
-  (ends-well : wrongEnd (h .states) last ≡ false) where
-
+    (started : isGiven (h .start) ≡ true) (accepting : isGiven (h .marks) ≡ true)
+    (rows-fit : TakesRows (limitsOf h) (noRows (limitsOf h .start)) rs last) (rows-few : RowsLimit (limitsOf h) rows-fit)
+    (ends-well : wrongEnd (h .states) last ≡ false) where
   abbrev keptBy : Kept
   keptBy = record { states = length (last .seen); edges = last .edges }
 
@@ -204,7 +204,7 @@ module _ (h : Head) (is : List Item) (rs : List Row) (last : Rows) (fit : TakesA
   counted-is = counts (limitsOf h) (h .states) (h .start) (noRows (limitsOf h .start)) last rs refl started (takes-agree blank h is fit tt) refl rows-fit ends-well
 
   what-rows-say :
-    RowsSaid (limitsOf h) (length (last .seen)) (last .largest) (limits-held .few-props) (below-count (h .states) (h .start) last counted-is) (noRows (limitsOf h .start)) rs last
+      RowsSaid (limitsOf h) (length (last .seen)) (last .largest) (limits-held .few-props) (below-count (h .states) (h .start) last counted-is) (noRows (limitsOf h .start)) rs last
   what-rows-say =
       rows-say (limitsOf h) (length (last .seen)) (last .largest) (limits-held .few-props) (below-count (h .states) (h .start) last counted-is)
       (noRows (limitsOf h .start)) last rs rows-fit
@@ -228,27 +228,27 @@ module _ (h : Head) (is : List Item) (rs : List Row) (last : Rows) (fit : TakesA
         version = refl;
         items-fit = a .fit;
         once =
-          record {
-            states-once = once-of (a .states-settle);
-            props-once = once-of (a .props-settle);
-            acc-name-once = omega (arith, a .acc-name-once);
-            tool-once = omega (arith, a .tool-once);
-            name-once = omega (arith, a .name-once)
-          };
+            record {
+              states-once = once-of (a .states-settle);
+              props-once = once-of (a .props-settle);
+              acc-name-once = omega (arith, a .acc-name-once);
+              tool-once = omega (arith, a .tool-once);
+              name-once = omega (arith, a .name-once);
+            };
         starts = start-of (h .start) (given ofStart is) started (a .start-settles);
         formula = given-formula .formula;
         accepts = given-formula .only;
         means = given-formula .means;
         states =
-          states-of (h .states) (given ofStates is) rs (length (last .seen)) (a .states-settle) (λ q. sym many)
-          (count-value (h .states) (h .start) last counted-is);
+            states-of (h .states) (given ofStates is) rs (length (last .seen)) (a .states-settle) (λ q. sym many)
+            (count-value (h .states) (h .start) last counted-is);
         some-state = some-count (h .states) (h .start) last counted-is;
         start-below = start-count (h .states) (h .start) last counted-is (what-rows-say .grows);
         row-each = many;
         rows-differ = what-rows-say .differ;
         all = what-rows-say .xs;
         rows-say = rows-said;
-        edges = ap (sorted (length (last .seen))) (what-rows-say .edges-are)
+        edges = ap (sorted (length (last .seen))) (what-rows-say .edges-are);
       }
 
   held-to : Limited the-doc (jobOf h keptBy) said-it
@@ -256,19 +256,19 @@ module _ (h : Head) (is : List Item) (rs : List Row) (last : Rows) (fit : TakesA
   held-to =
       record {
         few-states =
-          omega (
-            arith,
-            crowd mostJobStates (numbersOf rs) (few-numbers (limitsOf h) (noRows (limitsOf h .start)) last rs rows-fit rows-few) (what-rows-say .differ),
-            numbers-many rs,
-            many,
-          );
+            omega (
+              arith,
+              crowd mostJobStates (numbersOf rs) (few-numbers (limitsOf h) (noRows (limitsOf h .start)) last rs rows-fit rows-few) (what-rows-say .differ),
+              numbers-many rs,
+              many,
+            );
         few-props = subst (λ (a : ℕ). a ≤ mostProps) (props-of (h .props) (given ofProps is) (takes-ahead blank h is fit .props-settle)) (limits-held .few-props);
         few-marks = subst (λ (c : ℕ). c ≤ mostMarks) (sym (given-formula .marks)) (limits-held .few-marks);
         few-pairs = limits-held .few-pairs;
         few-edges =
-          subst (λ (es : List Edge). length es ≤ mostJobEdges) (what-rows-say .edges-are)
-          (few-rows (limitsOf h) (noRows (limitsOf h .start)) last rs rows-fit rows-few zero-le);
-        flat = flat-rows (limitsOf h) (noRows (limitsOf h .start)) last rs rows-fit rows-few
+            subst (λ (es : List Edge). length es ≤ mostJobEdges) (what-rows-say .edges-are)
+            (few-rows (limitsOf h) (noRows (limitsOf h .start)) last rs rows-fit rows-few zero-le);
+        flat = flat-rows (limitsOf h) (noRows (limitsOf h .start)) last rs rows-fit rows-few;
       }
 
 -- ---- what is read is a text of the subset
@@ -279,9 +279,9 @@ left-none : (text : List ℕ) (l : Limits) (ps : List Placed) (k : Kept) (qs : L
 left-none text l ps k qs (goes-on m at q) e =
     none-left l text m at (entries (noRows (l .start))) k qs (sym (ap (λ (xs : List Placed). run (rowStep l) xs (entries (noRows (l .start)))) q) ∙ e)
 
-pub accepted : FormulaSound → (text : List ℕ) (j : Job) → readHoa text ≡ job j → ReadAs text j
+pub accepted : (text : List ℕ) (j : Job) → readHoa text ≡ job j → ReadAs text j
 unfolding headEnd tokensAt docText tokensOf
-accepted formula-sound text j e = from-parts (parts text j e)
+accepted text j e = from-parts (parts text j e)
   where
     from-parts : Parts text j → ReadAs text j
     from-parts p =
@@ -291,11 +291,11 @@ accepted formula-sound text j e = from-parts (parts text j e)
         let nothing : p .rest ≡ [] = left-none text l ps (p .kept) (p .rest) (run-leaves headStep text (suc (length text)) 0 opening h ps (p .head-is)) (p .rows-are) in
         let heading = heads.sound h (tokensOf ps) formula-sound (tokensOf (tokensAt text 0)) (run-walk headStep (tokensAt text 0) ps opening h (p .head-is)) in
         let b = bodies.sound l (p .kept) [] (noRows (l .start)) (tokensOf ps) refl
-          (run-walk (rowStep l) ps (p .rest) (entries (noRows (l .start))) (p .kept) (p .rows-are) ∙ ap (λ (qs : List Placed). over (p .kept) (tokensOf qs)) nothing) in
+        (run-walk (rowStep l) ps (p .rest) (entries (noRows (l .start))) (p .kept) (p .rows-are) ∙ ap (λ (qs : List Placed). over (p .kept) (tokensOf qs)) nothing) in
         subst (ReadAs text) (ap (jobOf h) (b .is) ∙ p .job-is)
         (record {
           doc = the-doc h (heading .is) (b .rs) (b .last) (heading .takes) (heading .limits) (heading .started) (heading .accepting) (b .takes) (b .limits) (b .ends-well);
           tokens = heading .text ∙ ap (λ (us : List Token). header header-is.Hoa ∷ word word-is.V1 ∷ itemsText (heading .is) (body ∷ us)) (b .text);
           says = said-it h (heading .is) (b .rs) (b .last) (heading .takes) (heading .limits) (heading .started) (heading .accepting) (b .takes) (b .limits) (b .ends-well);
-          limited = held-to h (heading .is) (b .rs) (b .last) (heading .takes) (heading .limits) (heading .started) (heading .accepting) (b .takes) (b .limits) (b .ends-well)
+          limited = held-to h (heading .is) (b .rs) (b .last) (heading .takes) (heading .limits) (heading .started) (heading .accepting) (b .takes) (b .limits) (b .ends-well);
         })

@@ -21,8 +21,23 @@ use Rattle.hoa_head.specs.declared.Head.{Head}
 use Rattle.hoa_head.specs.Head.{mostProps, mostMarks, blank, withStates, withStart, withProps, withMarks, withAccName, withTool, withName}
 use Rattle.hoa_grammar.specs.Doc.{Conj, one, more, Hint, Extra, Item, states, start, props, alias, acceptance, accName, tool, name, properties, capital, lower}
 use Rattle.hoa_grammar.specs.Subset.{Each, eachNone, eachMore, Differ, given, put, ofStates, ofStart, ofProps, ofAcceptance, ofAccName, ofTool, ofName, Formula, ItemFits, StandardAs, pairsIn}
-use Rattle.hoa_grammar.proofs.Takes.{formula, Takes, takesStates, takesStart, takesProps, takesAcceptance, takesAccName, takesTool, takesName, takesProperties, takesLower, ItemLimit,
-  TakesAll, takesNone, takesMore}
+use Rattle.hoa_grammar.proofs.Takes.{
+  formula,
+  Takes,
+  takesStates,
+  takesStart,
+  takesProps,
+  takesAcceptance,
+  takesAccName,
+  takesTool,
+  takesName,
+  takesProperties,
+  takesLower,
+  ItemLimit,
+  TakesAll,
+  takesNone,
+  takesMore,
+}
 use Rattle.hoa_grammar.proofs.Heads.{AllLimits}
 
 -- what the header gives in the end
@@ -218,7 +233,7 @@ pass a =
       marks-kept = a .marks-kept;
       acc-name-once = a .acc-name-once;
       tool-once = a .tool-once;
-      name-once = a .name-once
+      name-once = a .name-once;
     }
 
 pass-lower : {h : Head} {es : List Extra} {is : List Item} {f : Goal} → Ahead h (lower es ∷ is) f → Ahead h is f
@@ -233,7 +248,7 @@ pass-lower a =
       marks-kept = a .marks-kept;
       acc-name-once = a .acc-name-once;
       tool-once = a .tool-once;
-      name-once = a .name-once
+      name-once = a .name-once;
     }
 
 -- what all items ahead must give makes them fit one behind the other
@@ -256,7 +271,7 @@ ahead-takes (states n ∷ is) h f agree g a =
       marks-kept = a .marks-kept;
       acc-name-once = a .acc-name-once;
       tool-once = a .tool-once;
-      name-once = a .name-once
+      name-once = a .name-once;
     }))
 ahead-takes (start (one s) ∷ is) h f agree g a =
     let m = met (one s) (given ofStart is) (a .start-settles) in
@@ -273,7 +288,7 @@ ahead-takes (start (one s) ∷ is) h f agree g a =
       marks-kept = a .marks-kept;
       acc-name-once = a .acc-name-once;
       tool-once = a .tool-once;
-      name-once = a .name-once
+      name-once = a .name-once;
     }))
 ahead-takes (start (more s c) ∷ is) h f agree g a = absurd (met (more s c) (given ofStart is) (a .start-settles) .gives-it)
 ahead-takes (props k ns ∷ is) h f agree g a =
@@ -292,7 +307,7 @@ ahead-takes (props k ns ∷ is) h f agree g a =
       marks-kept = a .marks-kept;
       acc-name-once = a .acc-name-once;
       tool-once = a .tool-once;
-      name-once = a .name-once
+      name-once = a .name-once;
     }))
 ahead-takes (alias l ∷ is) h f agree g a = absurd (head-fit (a .fit))
 ahead-takes (acceptance c x ∷ is) h f agree g a =
@@ -310,7 +325,7 @@ ahead-takes (acceptance c x ∷ is) h f agree g a =
       marks-kept = (refl, refl);
       acc-name-once = a .acc-name-once;
       tool-once = a .tool-once;
-      name-once = a .name-once
+      name-once = a .name-once;
     }))
 ahead-takes (accName w hs ∷ is) h f agree g a =
     taken-more
@@ -326,7 +341,7 @@ ahead-takes (accName w hs ∷ is) h f agree g a =
       marks-kept = a .marks-kept;
       acc-name-once = flag-set (h .hint) (length (given ofAccName is)) (a .acc-name-once);
       tool-once = a .tool-once;
-      name-once = a .name-once
+      name-once = a .name-once;
     }))
 ahead-takes (tool bs second ∷ is) h f agree g a =
     taken-more
@@ -342,7 +357,7 @@ ahead-takes (tool bs second ∷ is) h f agree g a =
       marks-kept = a .marks-kept;
       acc-name-once = a .acc-name-once;
       tool-once = flag-set (h .tool) (length (given ofTool is)) (a .tool-once);
-      name-once = a .name-once
+      name-once = a .name-once;
     }))
 ahead-takes (name bs ∷ is) h f agree g a =
     taken-more
@@ -358,7 +373,7 @@ ahead-takes (name bs ∷ is) h f agree g a =
       marks-kept = a .marks-kept;
       acc-name-once = a .acc-name-once;
       tool-once = a .tool-once;
-      name-once = flag-set (h .name) (length (given ofName is)) (a .name-once)
+      name-once = flag-set (h .name) (length (given ofName is)) (a .name-once);
     }))
 ahead-takes (properties ws ∷ is) h f agree g a = taken-more (takesProperties ws) (λ _. tt) (ahead-takes is h f agree g (pass a))
 ahead-takes (capital es ∷ is) h f agree g a = absurd (head-fit (a .fit))
@@ -413,7 +428,7 @@ ahead-end h =
       marks-kept = kept-end h (h .marks);
       acc-name-once = flag-end (h .hint);
       tool-once = flag-end (h .tool);
-      name-once = flag-end (h .name)
+      name-once = flag-end (h .name);
     }
 
 -- nothing was known of the formula where none was given
@@ -435,7 +450,7 @@ ahead-more {h = h} {is = is} f (takesStates n g p a) r =
       marks-kept = r .marks-kept;
       acc-name-once = r .acc-name-once;
       tool-once = r .tool-once;
-      name-once = r .name-once
+      name-once = r .name-once;
     }
 ahead-more {h = h} {is = is} f (takesStart s g a) r =
     let u = unsettle (r .start-settles) in
@@ -448,7 +463,7 @@ ahead-more {h = h} {is = is} f (takesStart s g a) r =
       marks-kept = r .marks-kept;
       acc-name-once = r .acc-name-once;
       tool-once = r .tool-once;
-      name-once = r .name-once
+      name-once = r .name-once;
     }
 ahead-more {h = h} {is = is} f (takesProps k ns g l d) r =
     let u = unsettle (r .props-settle) in
@@ -461,7 +476,7 @@ ahead-more {h = h} {is = is} f (takesProps k ns g l d) r =
       marks-kept = r .marks-kept;
       acc-name-once = r .acc-name-once;
       tool-once = r .tool-once;
-      name-once = r .name-once
+      name-once = r .name-once;
     }
 ahead-more {h = h} {is = is} f (takesAcceptance c x condition needs g m) r =
     let u = unsettle (r .marks-settle) in
@@ -474,7 +489,7 @@ ahead-more {h = h} {is = is} f (takesAcceptance c x condition needs g m) r =
       marks-kept = no-marks (h .marks) (h .condition) (h .needs) f g;
       acc-name-once = r .acc-name-once;
       tool-once = r .tool-once;
-      name-once = r .name-once
+      name-once = r .name-once;
     }
 ahead-more {h = h} {is = is} f (takesAccName w hs g) r =
     record {
@@ -486,7 +501,7 @@ ahead-more {h = h} {is = is} f (takesAccName w hs g) r =
       marks-kept = r .marks-kept;
       acc-name-once = flag-met (h .hint) (length (given ofAccName is)) g (r .acc-name-once);
       tool-once = r .tool-once;
-      name-once = r .name-once
+      name-once = r .name-once;
     }
 ahead-more {h = h} {is = is} f (takesTool bs second g) r =
     record {
@@ -498,7 +513,7 @@ ahead-more {h = h} {is = is} f (takesTool bs second g) r =
       marks-kept = r .marks-kept;
       acc-name-once = r .acc-name-once;
       tool-once = flag-met (h .tool) (length (given ofTool is)) g (r .tool-once);
-      name-once = r .name-once
+      name-once = r .name-once;
     }
 ahead-more {h = h} {is = is} f (takesName bs g) r =
     record {
@@ -510,7 +525,7 @@ ahead-more {h = h} {is = is} f (takesName bs g) r =
       marks-kept = r .marks-kept;
       acc-name-once = r .acc-name-once;
       tool-once = r .tool-once;
-      name-once = flag-met (h .name) (length (given ofName is)) g (r .name-once)
+      name-once = flag-met (h .name) (length (given ofName is)) g (r .name-once);
     }
 ahead-more f (takesProperties ws) r =
     record {
@@ -522,7 +537,7 @@ ahead-more f (takesProperties ws) r =
       marks-kept = r .marks-kept;
       acc-name-once = r .acc-name-once;
       tool-once = r .tool-once;
-      name-once = r .name-once
+      name-once = r .name-once;
     }
 ahead-more f (takesLower es) r =
     record {
@@ -534,7 +549,7 @@ ahead-more f (takesLower es) r =
       marks-kept = r .marks-kept;
       acc-name-once = r .acc-name-once;
       tool-once = r .tool-once;
-      name-once = r .name-once
+      name-once = r .name-once;
     }
 
 -- items that fit one behind the other give all that is asked of them

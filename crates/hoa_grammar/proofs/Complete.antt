@@ -95,7 +95,7 @@ module _ (d : Doc) (j : Job) (s : Says d j) (m : Limited d j s) where
         props = propsGiven (given ofProps (d .items));
         marks = Value (s .formula .marks);
         condition = j .condition;
-        needs = j .needs
+        needs = j .needs;
       }
 
   -- n is the number of states, where it is given
@@ -122,7 +122,7 @@ module _ (d : Doc) (j : Job) (s : Says d j) (m : Limited d j s) where
         marks-kept = tt;
         acc-name-once = omega (arith, s .once .acc-name-once);
         tool-once = omega (arith, s .once .tool-once);
-        name-once = omega (arith, s .once .name-once)
+        name-once = omega (arith, s .once .name-once);
       }
 
   taken : Taken blank (d .items) goal
@@ -135,7 +135,7 @@ module _ (d : Doc) (j : Job) (s : Says d j) (m : Limited d j s) where
         few-start = omega (arith, s .start-below, m .few-states);
         few-props = subst (λ (a : ℕ). a ≤ mostProps) (props-are (given ofProps (d .items))) (m .few-props);
         few-marks = m .few-marks;
-        few-pairs = m .few-pairs
+        few-pairs = m .few-pairs;
       }
 
   abbrev the-rows : List Token
@@ -215,7 +215,7 @@ read-all text j r =
     let f = goal d j s m in
     let first = walk-run headStep (tokensAt text 0) opening (t .last) (the-rows d j s m) (ap (λ (ts : List Token). walk headStep ts opening) (r .tokens) ∙ head-walk d j s m) in
     let second = walk-run (rowStep (l d j s m)) (first .left) (entries (noRows (j .start))) (keptBy d j s m) []
-      (ap (λ (ts : List Token). walk (rowStep (l d j s m)) ts (entries (noRows (j .start)))) (first .tokens) ∙ rows-walked d j s m) in
+    (ap (λ (ts : List Token). walk (rowStep (l d j s m)) ts (entries (noRows (j .start)))) (first .tokens) ∙ rows-walked d j s m) in
     ap headSays (first .is)
     ∙ says-by (t .last) f (t .reached) (first .left) (keptBy d j s m) (second .left) (second .is)
     ∙ ap job (job-is d j s m)

@@ -67,6 +67,7 @@ one-lost m (q ∷ qs) (differMore d ds) = by (eqb m q) refl (one-lost m qs ds)
         each-by : (rs : List ℕ) → Each (λ r. q ≡ r → ⊥) rs → Each (λ r. m ≡ r → ⊥) rs
         each-by [] eachNone = eachNone
         each-by (r ∷ rs) (eachMore h hs) = eachMore {x = r} (λ z. h (sym e ∙ z)) (each-by rs hs)
+
     by : (x : Bool) → eqb m q ≡ x → length qs ≤ suc (length (without m qs)) → suc (length qs) ≤ suc (length (cond x (without m qs) (q ∷ without m qs)))
     by true e r = omega (arith, none-lost m qs (all m (eqb-true m q e)))
     by false e r = omega arith

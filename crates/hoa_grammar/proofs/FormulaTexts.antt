@@ -14,24 +14,76 @@ use Rattle.hoa_tokens.specs.declared.Word.{Word}
 use Rattle.hoa_tokens.specs.declared.Word.the-variants as word-is
 use Rattle.hoa_tokens.specs.Token.{Token, header, body}
 use Rattle.hoa_formula.specs.Cond.{Cond, condText}
-use Rattle.hoa_formula.specs.Standard.{FormulaMeaning, standard, short, mostPairs, noNeeds, rabinMeaning, Infs, Infop, infsText, infopText, infsEnd, infopEnd, Pair, Phead, pairText, pheadText, pairEnd, pheadEnd,
-  Rabin, Rabop, rabinText, rabopText, rabinEnd, rabopEnd, Single, Spair, singleText, spairText, Streett, Strop, streettText, stropText, stropEnd, Truth, truthText, Std, stdText, IsStd, stdMeaning,
-  both, either, left, right, atom}
+use Rattle.hoa_formula.specs.Standard.{
+  FormulaMeaning,
+  standard,
+  short,
+  mostPairs,
+  noNeeds,
+  rabinMeaning,
+  Infs,
+  Infop,
+  infsText,
+  infopText,
+  infsEnd,
+  infopEnd,
+  Pair,
+  Phead,
+  pairText,
+  pheadText,
+  pairEnd,
+  pheadEnd,
+  Rabin,
+  Rabop,
+  rabinText,
+  rabopText,
+  rabinEnd,
+  rabopEnd,
+  Single,
+  Spair,
+  singleText,
+  spairText,
+  Streett,
+  Strop,
+  streettText,
+  stropText,
+  stropEnd,
+  Truth,
+  truthText,
+  Std,
+  stdText,
+  IsStd,
+  stdMeaning,
+  both,
+  either,
+  left,
+  right,
+  atom,
+}
 use Rattle.hoa_formula.specs.Machines.{RabinWants, RabinBehind, StreettWants, Bare, TruthBehind, Wants, Behind, begin, buchiDone, rabinDone, streettDone, bareDone}
 use Rattle.hoa_formula.specs.Formulas as formula
-use Rattle.hoa_formula.specs.Formulas.{FormulaState, FormulaStep, Stage, operand, named, bracket, number, after, formulaBegin, freeStep, formulaStep, tooMany, limited, opensPair, meaningOf, byDone}
+use Rattle.hoa_formula.specs.Formulas.{FormulaState, FormulaStep, Stage, operand, named, bracket, number, after, formulaBegin, freeStep, formulaStep, tooMany, limited, opensPair, onStage, meaningOf, byDone}
 use Rattle.hoa_formula.specs.Walking.{freeWalk, andOn, Stands}
 use Rattle.hoa_formula.proofs.Admitted as admitted
 use Rattle.hoa_formula.proofs.Sound as sounds
 use Rattle.hoa_formula.proofs.Accepted.{over-stands, limit-over, limit-go}
 use Rattle.hoa_formula.proofs.Conds.{std-cond}
+use Rattle.hoa_formula.specs.declared.machine.Piece.the-variants as piece-is
+use Rattle.hoa_head.specs.declared.Head.{Head}
+use Rattle.hoa_head.specs.Head.{withMarks}
+use Rattle.hoa_head.specs.Heading.{HeadState, items, inFormula, headStep, onFormula}
 use Rattle.hoa_grammar.specs.Subset.{StandardAs, pairsIn}
+use Rattle.hoa_grammar.specs.Walk.{Walk, walk, walkBy}
+use Rattle.hoa_grammar.proofs.Onward.{Onward, same, limit, onward-then, onward-from}
+use Rattle.hoa_grammar.proofs.Opens.{Opens, opensItem, opensBody, HeadWalk, same-step}
+use Rattle.hoa_grammar.proofs.Leads.{Leads, ends, steps, FormulaRead, FormulaSound}
 use Rattle.hoa_grammar.proofs.Pairs.{Wherever, InfAtMost, BareInf, BesideWants, BesideStage, OnlyWants, OnlyBehind, NineWants, NineBehind, NineStage, Beside, Nine, Eight, Few, step-beside, step-nine, step-few}
 
 -- ---- what follows a formula's text
 
 mutual
   unfolding infsText
+
   infs-more : (x : Infs) (i : ℕ) (ts us : List Token) → infsText x i (ts ++ us) ≡ infsText x i ts ++ us
   infs-more (Infs.one x) i ts us = infop-more x i ts us
   infs-more (Infs.more x y) i ts us =
@@ -43,6 +95,7 @@ mutual
 
 mutual
   unfolding pairText
+
   pair-more : (x : Pair) (i : ℕ) (ts us : List Token) → pairText x i (ts ++ us) ≡ pairText x i ts ++ us
   pair-more (Pair.alone x) i ts us = phead-more x i ts us
   pair-more (Pair.needing x y) i ts us =
@@ -54,6 +107,7 @@ mutual
 
 mutual
   unfolding rabinText
+
   rabin-more : (x : Rabin) (i : ℕ) (ts us : List Token) → rabinText x i (ts ++ us) ≡ rabinText x i ts ++ us
   rabin-more (Rabin.one x) i ts us = rabop-more x i ts us
   rabin-more (Rabin.more x y) i ts us =
@@ -76,6 +130,7 @@ spair-more x i ts us =
 
 mutual
   unfolding streettText
+
   streett-more : (x : Streett) (i : ℕ) (ts us : List Token) → streettText x i (ts ++ us) ≡ streettText x i ts ++ us
   streett-more (Streett.one x) i ts us = strop-more x i ts us
   streett-more (Streett.more x y) i ts us =
@@ -222,3 +277,123 @@ nine-opens n (named b) e h = absurd (false≢true e)
 nine-opens n (bracket b) e h = absurd (false≢true e)
 nine-opens n (number b) e h = absurd (false≢true e)
 nine-opens n (after b) e h = absurd (false≢true e)
+
+-- ---- before the first token
+
+begins-beside : (c : ℕ) → Beside (formulaBegin c)
+unfolding formulaBegin
+begins-beside c = λ (z : 0 < 0). absurd (omega arith)
+
+begins-eight : (c : ℕ) → Eight (formulaBegin c)
+unfolding formulaBegin
+begins-eight c = (zero-le, refl)
+
+-- ---- a formula in a header is walked to its end
+
+-- the token that stands behind a formula
+behind-piece : (t : Token) → Opens t → formula.pieceOf t ≡ piece-is.Foreign
+unfolding formula.pieceOf
+behind-piece (header k) (opensItem _ e) = refl
+behind-piece body opensBody = refl
+
+module _ (c : ℕ) (h : Head) where
+  -- one token: on, or the limit
+  by-limit-of : (many : Bool) (u : FormulaState) (t : Token) (us : List Token) (w : HeadWalk) {L : Type 0} → (many ≡ true → L → ⊥)
+      → Onward L (walk headStep us (inFormula c u h)) w
+      → Onward L (walkBy (onFormula c h t (cond many (formula.wrong 42) (formula.go u))) us (λ v. walk headStep us v)) w
+  by-limit-of true u t us w n o = limit (n refl) us refl
+  by-limit-of false u t us w n o = o
+
+  -- the tokens of a formula lead to where it may be over
+  formula-tokens : (ts us : List Token) (s f : FormulaState) (a : Acceptance) (ms : List ℕ) → Beside s → freeWalk c s ts ≡ formula.go f → Stands c f (standard a ms)
+      → Onward (pairsIn a ≤ mostPairs) (walk headStep (ts ++ us) (inFormula c s h)) (walk headStep us (inFormula c f h))
+  unfolding freeWalk walk headStep formulaStep
+  formula-tokens [] us s f a ms b e st = same (ap (λ (x : FormulaState). walk headStep us (inFormula c x h)) (ap (goOr s) e))
+  formula-tokens (t ∷ ts) us s f a ms b e st = by (freeStep c s t) (step-beside c s t b) (λ u k q. formula-tokens ts us u f a ms k q st) e
+    where
+      by : (x : FormulaStep) → Wherever Beside x
+          → ((u : FormulaState) → Beside u → freeWalk c u ts ≡ formula.go f → Onward (pairsIn a ≤ mostPairs) (walk headStep (ts ++ us) (inFormula c u h)) (walk headStep us (inFormula c f h)))
+          → andOn x (λ u. freeWalk c u ts) ≡ formula.go f
+          → Onward (pairsIn a ≤ mostPairs) (walkBy (onFormula c h t (limited x)) (ts ++ us) (λ v. walk headStep (ts ++ us) v)) (walk headStep us (inFormula c f h))
+      by (formula.go u) k more e =
+          by-limit-of (tooMany (length (u .needs)) (u .stage)) u t (ts ++ us) (walk headStep us (inFormula c f h))
+          (λ q l.
+          let nine : mostPairs < pairsIn a = nine-stands c f a ms (keeps c Nine (step-nine c) ts u f (nine-opens (length (u .needs)) (u .stage) q k) e) st in
+          omega arith)
+          (more u k e)
+      by (formula.over m) k more e = absurd (subst goes (sym e) tt)
+      by (formula.wrong n) k more e = absurd (subst goes (sym e) tt)
+
+  -- behind the formula the token is looked at as any
+  behind-step : (f : FormulaState) (a : Acceptance) (ms : List ℕ) (t : Token) → Opens t → Stands c f (standard a ms)
+      → headStep (inFormula c f h) t ≡ headStep (items (withMarks c a ms h)) t
+  unfolding headStep formulaStep freeStep
+  behind-step f a ms t o st =
+      ap (λ (x : FormulaStep). onFormula c h t (limited x))
+      (ap (onStage c (f .depth) (f .atoms) (f .needs) (f .stage)) (behind-piece t o)
+      ∙ (λ i. onStage c (st .outside i) (f .atoms) (f .needs) (st .stage i) piece-is.Foreign)
+      ∙ ap formula.over (st .means))
+
+  -- a standard formula in a header leads on, or passes the limit of pairs
+  pub formula-walk : (x : Cond) (a : Acceptance) (ms : List ℕ) (t : Token) (rest : List Token) → Opens t → StandardAs (record { marks = c; cond = x }) a ms
+      → Onward (pairsIn a ≤ mostPairs) (walk headStep (condText x (t ∷ rest)) (inFormula c (formulaBegin c) h)) (walk headStep (t ∷ rest) (items (withMarks c a ms h)))
+  formula-walk x a ms t rest o m =
+      let k = admitted.complete c (m .std) (m .of-marks) in
+      let st : Stands c (k .state) (standard a ms) = subst (Stands c (k .state)) (m .means) (k .stands) in
+      onward-from
+      (ap (λ (ts : List Token). walk headStep ts (inFormula c (formulaBegin c) h)) (m .text (t ∷ rest) ∙ std-more (m .std) (t ∷ rest)))
+      (onward-then
+      (formula-tokens (stdText (m .std) []) (t ∷ rest) (formulaBegin c) (k .state) a ms (begins-beside c) (k .walk) st)
+      (same-step (inFormula c (k .state) h) (items (withMarks c a ms h)) t rest (behind-step (k .state) a ms t o st)))
+
+-- ---- tokens that lead to the end of a formula are one
+
+-- the tokens before, and where they lead
+record Front (c : ℕ) (s : FormulaState) (ts rest : List Token) (m : FormulaMeaning) : Type 0 where
+  front : List Token
+  split : ts ≡ front ++ rest
+  last : FormulaState
+  walked : freeWalk c s front ≡ formula.go last
+  stands : Stands c last m
+  few : length (last .needs) ≤ mostPairs
+
+-- a step that goes within the limit keeps it
+eight-step : (c : ℕ) (s u : FormulaState) (t : Token) → Eight s → formulaStep c s t ≡ formula.go u → Eight u
+unfolding formulaStep
+eight-step c s u t h e = by (freeStep c s t) (step-few c s t h) e
+  where
+    many : (x : Bool) (v : FormulaState) → tooMany (length (v .needs)) (v .stage) ≡ x → length (v .needs) ≤ mostPairs → cond x (formula.wrong 42) (formula.go v) ≡ formula.go u → Eight u
+    many true v q k e = absurd (subst goes (sym e) tt)
+    many false v q k e = subst Eight (ap (goOr v) e) (k, q)
+
+    by : (x : FormulaStep) → Wherever Few x → limited x ≡ formula.go u → Eight u
+    by (formula.go v) k e = many (tooMany (length (v .needs)) (v .stage)) v refl k e
+    by (formula.over m) k e = absurd (subst goes (sym e) tt)
+    by (formula.wrong n) k e = absurd (subst goes (sym e) tt)
+
+leads-front : (c : ℕ) (s : FormulaState) (ts rest : List Token) (m : FormulaMeaning) → Eight s → Leads c s ts m rest → Front c s ts rest m
+unfolding freeWalk
+leads-front c s _ _ m h (ends {t = t} q) =
+    record { front = []; split = refl; last = s; walked = refl; stands = over-stands c s t m (limit-over c s t m q); few = h .0 }
+leads-front c s _ rest m h (steps {u = u} {t = t} {ts = ts} q l) =
+    let r = leads-front c u ts rest m (eight-step c s u t h q) l in
+    record {
+      front = t ∷ r .front;
+      split = ap (λ (us : List Token). t ∷ us) (r .split);
+      last = r .last;
+      walked = rw (limit-go c s t u q) (r .walked);
+      stands = r .stands;
+      few = r .few;
+    }
+
+pub formula-sound : FormulaSound
+formula-sound c ts rest a ms l =
+    let r = leads-front c (formulaBegin c) ts rest (standard a ms) (begins-eight c) l in
+    let x = sounds.sound c (r .front) (r .last) (r .walked) (standard a ms) (r .stands) (λ e. subst isStandard e tt) in
+    let y = std-cond (x .formula) in
+    record {
+      cond = y .0;
+      text = r .split ∙ ap (λ (us : List Token). us ++ rest) (sym (x .text)) ∙ sym (std-more (x .formula) rest) ∙ sym (y .1 rest);
+      means = record { std = x .formula; of-marks = x .standard; text = y .1; means = x .means };
+      few = omega (arith, stands-pairs c (r .last) a ms (r .stands), r .few);
+    }

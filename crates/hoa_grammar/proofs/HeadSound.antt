@@ -29,17 +29,75 @@ use Rattle.hoa_head.specs.declared.Head.{Head}
 use Rattle.hoa_head.specs.declared.Piece.{Piece}
 use Rattle.hoa_head.specs.declared.Piece.the-variants as piece-is
 use Rattle.hoa_head.specs.Head.{mostProps, mostMarks, blank, withStates, withStart, withProps, withMarks, withAccName, withTool, withName}
-use Rattle.hoa_head.specs.Heading.{HeadState, opening, version, items, statesInt, startInt, propsInt, marksInt, startMore, names, inFormula, accName, toolText, toolMore, nameText, hints,
-  HeadStep, pieceOf, pieceHeader, pieceSign, headStep, onPiece, onItem, onBody, once, onStates, onStart, onStartMore, onProps, onNames, onName, behindNames, unfinished, nameCame,
-  onMarks, onFormula, behindFormula, onAccName, onToolMore, onHints, onOpening, openingHeader, onVersion, versionWord}
+use Rattle.hoa_head.specs.Heading.{
+  HeadState,
+  opening,
+  version,
+  items,
+  statesInt,
+  startInt,
+  propsInt,
+  marksInt,
+  startMore,
+  names,
+  inFormula,
+  accName,
+  toolText,
+  toolMore,
+  nameText,
+  hints,
+  HeadStep,
+  pieceOf,
+  pieceHeader,
+  pieceSign,
+  headStep,
+  onPiece,
+  onItem,
+  onBody,
+  once,
+  onStates,
+  onStart,
+  onStartMore,
+  onProps,
+  onNames,
+  onName,
+  behindNames,
+  unfinished,
+  nameCame,
+  onMarks,
+  onFormula,
+  behindFormula,
+  onAccName,
+  onToolMore,
+  onHints,
+  onOpening,
+  openingHeader,
+  onVersion,
+  versionWord,
+}
 use Rattle.hoa_grammar.specs.Doc as doc
 use Rattle.hoa_grammar.specs.Doc.{Conj, Hint, hintWord, hintInt, Extra, extraWord, extraInt, extraText, Item, itemText, itemsText, hintsText, extrasText, wordsText, stringsText, perhapsText}
 use Rattle.hoa_grammar.specs.Subset.{Each, eachNone, eachMore, Differ, differNone, differMore, StandardAs, pairsIn}
 use Rattle.hoa_grammar.specs.Walk.{Walk, going, over, faulty, walkBy, walk}
-use Rattle.hoa_grammar.proofs.Takes.{Takes, takesStates, takesStart, takesProps, takesAcceptance, takesAccName, takesTool, takesName, takesProperties, takesLower, ItemLimit,
-  TakesAll, takesNone, takesMore}
+use Rattle.hoa_grammar.proofs.Takes.{
+  Takes,
+  takesStates,
+  takesStart,
+  takesProps,
+  takesAcceptance,
+  takesAccName,
+  takesTool,
+  takesName,
+  takesProperties,
+  takesLower,
+  ItemLimit,
+  TakesAll,
+  takesNone,
+  takesMore,
+}
 use Rattle.hoa_grammar.proofs.Takes as takes
 use Rattle.hoa_grammar.proofs.Names.{ne-same}
+use Rattle.hoa_grammar.proofs.Leads.{Leads, ends, steps, FormulaRead, FormulaSound}
 use Rattle.hoa_grammar.proofs.Heads.{AllLimits, New}
 
 abbrev HeadWalk : Type 0
@@ -259,26 +317,6 @@ piece-text (sign sign-is.And) e = cc
 piece-text (sign sign-is.Or) e = cc
 piece-text (sign sign-is.Not) e = cc
 
--- ---- formulas
-
--- the tokens lead from a state of a formula to its end, with this meaning, and these are left
-pub data Leads (c : ℕ) : FormulaState → List Token → FormulaMeaning → List Token → Type 0 where
-  ends : {s : FormulaState} {t : Token} {ts : List Token} {m : FormulaMeaning} → formulaStep c s t ≡ formula.over m → Leads c s (t ∷ ts) m (t ∷ ts)
-  steps : {s u : FormulaState} {t : Token} {ts rest : List Token} {m : FormulaMeaning} → formulaStep c s t ≡ formula.go u → Leads c u ts m rest → Leads c s (t ∷ ts) m rest
-
--- the tokens are a standard formula with this meaning, and then `rest`
-pub record FormulaRead (c : ℕ) (ts rest : List Token) (condition : Acceptance) (needs : List ℕ) : Type 0 where
-  pub cond : Cond
-  pub text : ts ≡ condText cond rest
-  pub means : StandardAs (takes.formula c cond) condition needs
-  pub few : pairsIn condition ≤ mostPairs
-
--- what the crate `hoa_formula` knows: tokens that lead to the end of a formula are one
-abbrev pub FormulaSound : Type 0
-FormulaSound =
-    (c : ℕ) (ts rest : List Token) (condition : Acceptance) (needs : List ℕ)
-    → Leads c (formulaBegin c) ts (standard condition needs) rest → FormulaRead c ts rest condition needs
-
 -- ---- a walk that is over
 
 abbrev ending : Head → List Token → HeadWalk
@@ -316,12 +354,12 @@ module _ (final : Head) (left : List Token) (formula-sound : FormulaSound) where
 
   -- a test that would have been faulty did not hold
   passed : (b : Bool) (n : ℕ) (x : HeadStep) (ts : List Token) (more : HeadState → HeadWalk) → walkBy (cond b (wrong n) x) ts more ≡ over final left
-    → (b ≡ false) × (walkBy x ts more ≡ over final left)
+      → (b ≡ false) × (walkBy x ts more ≡ over final left)
   passed true n x ts more e = never _ _ e
   passed false n x ts more e = (refl, e)
 
   passed-once : (b : Bool) (s : HeadState) (ts : List Token) (more : HeadState → HeadWalk) → walkBy (once b s) ts more ≡ over final left
-    → (b ≡ false) × (more s ≡ over final left)
+      → (b ≡ false) × (more s ≡ over final left)
   passed-once true s ts more e = never _ _ e
   passed-once false s ts more e = (refl, e)
 
@@ -351,7 +389,7 @@ module _ (final : Head) (left : List Token) (formula-sound : FormulaSound) where
         takes = takesMore f (r .takes);
         limits = (l, r .limits);
         started = r .started;
-        accepting = r .accepting
+        accepting = r .accepting;
       }
 
   record StatesLeft (h : Head) (ts : List Token) : Type 0 where
@@ -470,6 +508,7 @@ module _ (final : Head) (left : List Token) (formula-sound : FormulaSound) where
   -- what is known of the tokens behind: wherever they lead to the end, so much is left
   Behind : List Token → Type 0
   Behind ts = (s : HeadState) → walk headStep ts s ≡ over final left → Left s ts
+
   -- ---- what was passed over
 
   record AsWords (es : List Extra) (rest : List Token) : Type 0 where
@@ -500,7 +539,7 @@ module _ (final : Head) (left : List Token) (formula-sound : FormulaSound) where
   -- ---- where an item may begin
 
   sound-item : (h : Head) (t : Token) (ts : List Token) (k : Header) → pieceOf t ≡ piece-is.Item k → Behind ts
-    → walkBy (onItem h k) ts (λ u. walk headStep ts u) ≡ over final left → Items h (t ∷ ts)
+      → walkBy (onItem h k) ts (λ u. walk headStep ts u) ≡ over final left → Items h (t ∷ ts)
   unfolding Behind Left itemText doc.conjText ItemLimit
   sound-item h t ts header-is.States q behind e =
       let p = passed-once (isGiven (h .states)) (statesInt h) ts _ e in
@@ -578,11 +617,11 @@ module _ (final : Head) (left : List Token) (formula-sound : FormulaSound) where
         takes = takesNone f;
         limits = tt;
         started = ap (λ (x : Head). isGiven (x .start)) (sym f) ∙ not-false (isGiven (h .start)) (n .0);
-        accepting = ap (λ (x : Head). isGiven (x .marks)) (sym f) ∙ not-false (isGiven (h .marks)) (n .1)
+        accepting = ap (λ (x : Head). isGiven (x .marks)) (sym f) ∙ not-false (isGiven (h .marks)) (n .1);
       }
 
   sound-piece : (h : Head) (t : Token) (ts : List Token) (p : Piece) → pieceOf t ≡ p → Behind ts
-    → walkBy (onPiece h p) ts (λ u. walk headStep ts u) ≡ over final left → Items h (t ∷ ts)
+      → walkBy (onPiece h p) ts (λ u. walk headStep ts u) ≡ over final left → Items h (t ∷ ts)
   sound-piece h t ts (piece-is.Item k) q behind e = sound-item h t ts k q behind e
   sound-piece h t ts piece-is.Body q behind e = sound-body h t ts (piece-body t q) e
   sound-piece h t ts piece-is.Word q behind e = never _ _ e
@@ -594,7 +633,7 @@ module _ (final : Head) (left : List Token) (formula-sound : FormulaSound) where
   -- ---- where an INT or a STRING is wanted
 
   wants-int : (f : ℕ → HeadStep) (t : Token) (ts : List Token) (more : HeadState → HeadWalk) → walkBy (wantsInt f t) ts more ≡ over final left
-    → (t ≡ int (intIn t)) × (walkBy (f (intIn t)) ts more ≡ over final left)
+      → (t ≡ int (intIn t)) × (walkBy (f (intIn t)) ts more ≡ over final left)
   unfolding wantsInt
   wants-int f (int i) ts more e = (refl, e)
   wants-int f (word w) ts more e = never _ _ e
@@ -609,7 +648,7 @@ module _ (final : Head) (left : List Token) (formula-sound : FormulaSound) where
   wants-int f bad ts more e = never _ _ e
 
   wants-text : (s : HeadState) (t : Token) (ts : List Token) (more : HeadState → HeadWalk) → walkBy (wantsText s t) ts more ≡ over final left
-    → (t ≡ str (textIn t)) × (more s ≡ over final left)
+      → (t ≡ str (textIn t)) × (more s ≡ over final left)
   unfolding wantsText
   wants-text s (int i) ts more e = never _ _ e
   wants-text s (word w) ts more e = never _ _ e
@@ -650,7 +689,7 @@ module _ (final : Head) (left : List Token) (formula-sound : FormulaSound) where
           some = positive (intIn t) (eqb-false (intIn t) 0 (n .0));
           above = n .1;
           few = ltb-false mostJobStates (intIn t) (q .0);
-          more = behind (items (withStates (intIn t) h)) (q .1)
+          more = behind (items (withStates (intIn t) h)) (q .1);
         }
 
     sound-start : walkBy (wantsInt (onStart h) t) ts (λ u. walk headStep ts u) ≡ over final left → StartLeft h (t ∷ ts)
@@ -665,7 +704,7 @@ module _ (final : Head) (left : List Token) (formula-sound : FormulaSound) where
           text = behind-by (i .0) refl;
           below = p .0;
           few = leb-false mostJobStates (intIn t) (q .0);
-          more = behind (startMore (withStart (intIn t) h)) (q .1)
+          more = behind (startMore (withStart (intIn t) h)) (q .1);
         }
 
     sound-props : walkBy (wantsInt (onProps h) t) ts (λ u. walk headStep ts u) ≡ over final left → PropsLeft h (t ∷ ts)
@@ -678,7 +717,7 @@ module _ (final : Head) (left : List Token) (formula-sound : FormulaSound) where
           rest = ts;
           text = behind-by (i .0) refl;
           few = ltb-false mostProps (intIn t) (p .0);
-          more = behind (names (intIn t) [] h) (p .1) zero-le
+          more = behind (names (intIn t) [] h) (p .1) zero-le;
         }
 
     sound-marks : walkBy (wantsInt (onMarks h) t) ts (λ u. walk headStep ts u) ≡ over final left → MarksLeft h (t ∷ ts)
@@ -691,7 +730,7 @@ module _ (final : Head) (left : List Token) (formula-sound : FormulaSound) where
           rest = ts;
           text = behind-by (i .0) refl;
           few = ltb-false mostMarks (intIn t) (p .0);
-          more = behind (inFormula (intIn t) (formulaBegin (intIn t)) h) (p .1)
+          more = behind (inFormula (intIn t) (formulaBegin (intIn t)) h) (p .1);
         }
 
     sound-start-more : (p : Piece) → pieceOf t ≡ p → walkBy (onStartMore h p) ts (λ u. walk headStep ts u) ≡ over final left → Items h (t ∷ ts)
@@ -745,7 +784,7 @@ module _ (final : Head) (left : List Token) (formula-sound : FormulaSound) where
     no-hint ints texts r = record { es = []; rest = t ∷ ts; passes = passNone; text = refl; more = r }
 
     sound-hints : (ints texts : Bool) (p : Piece) → pieceOf t ≡ p → walkBy (onHints ints texts h p) ts (λ u. walk headStep ts u) ≡ over final left
-      → HintsLeft ints texts h (t ∷ ts)
+        → HintsLeft ints texts h (t ∷ ts)
     unfolding Behind Left extrasText
     sound-hints ints texts piece-is.Word q e =
         let r = behind (hints ints texts h) e in
@@ -776,7 +815,7 @@ module _ (final : Head) (left : List Token) (formula-sound : FormulaSound) where
         eachMore {x = m} (λ q. ne-same m n (neither (same m n) (nameCame m seen) e .0) (sym q)) (each-differs n seen ns es)
 
     sound-new-name : (a : ℕ) (seen : List (List ℕ)) (bs : List ℕ) → t ≡ str bs → walkBy (onName a seen h bs) ts (λ u. walk headStep ts u) ≡ over final left
-      → length seen ≤ a → NamesLeft a seen h (t ∷ ts)
+        → length seen ≤ a → NamesLeft a seen h (t ∷ ts)
     unfolding Behind Left stringsText
     sound-new-name a seen bs q e l =
         let p = passed (leb a (length seen) || nameCame bs seen) 41 (go (names a (bs ∷ seen) h)) ts (λ u. walk headStep ts u) e in
@@ -789,12 +828,12 @@ module _ (final : Head) (left : List Token) (formula-sound : FormulaSound) where
           new = eachMore {x = bs} (n .1) (fewer-seen bs seen (r .ns) (r .new));
           differ = differMore (each-differs bs seen (r .ns) (r .new)) (r .differ);
           all = omega (arith, r .all);
-          more = r .more
+          more = r .more;
         }
 
     sound-behind-names : (a : ℕ) (seen : List (List ℕ)) (few : Bool) → ltb (length seen) a ≡ few
-      → walkBy (cond few (unfinished (pieceOf t)) (onPiece (withProps a h) (pieceOf t))) ts (λ u. walk headStep ts u) ≡ over final left
-      → length seen ≤ a → NamesLeft a seen h (t ∷ ts)
+        → walkBy (cond few (unfinished (pieceOf t)) (onPiece (withProps a h) (pieceOf t))) ts (λ u. walk headStep ts u) ≡ over final left
+        → length seen ≤ a → NamesLeft a seen h (t ∷ ts)
     unfolding stringsText
     sound-behind-names a seen true q e l = absurd (unfinished-ends (pieceOf t) ts _ e)
     sound-behind-names a seen false q e l =
@@ -805,25 +844,25 @@ module _ (final : Head) (left : List Token) (formula-sound : FormulaSound) where
           new = eachNone;
           differ = differNone;
           all = omega (arith, ltb-false (length seen) a q);
-          more = sound-piece (withProps a h) t ts (pieceOf t) refl behind e
+          more = sound-piece (withProps a h) t ts (pieceOf t) refl behind e;
         }
 
     -- ---- the formula
 
     sound-behind-formula : (c : ℕ) (s : FormulaState) (m : FormulaMeaning) → formulaStep c s t ≡ formula.over m
-      → walkBy (behindFormula c h (pieceOf t) m) ts (λ u. walk headStep ts u) ≡ over final left → FormulaLeft c s h (t ∷ ts)
+        → walkBy (behindFormula c h (pieceOf t) m) ts (λ u. walk headStep ts u) ≡ over final left → FormulaLeft c s h (t ∷ ts)
     sound-behind-formula c s (standard condition needs) q e =
         record {
           condition = condition;
           needs = needs;
           rest = t ∷ ts;
           leads = ends q;
-          more = sound-piece (withMarks c condition needs h) t ts (pieceOf t) refl behind e
+          more = sound-piece (withMarks c condition needs h) t ts (pieceOf t) refl behind e;
         }
     sound-behind-formula c s short q e = absurd (unfinished-ends (pieceOf t) ts _ e)
 
     sound-formula : (c : ℕ) (s : FormulaState) (x : FormulaStep) → formulaStep c s t ≡ x
-      → walkBy (onFormula c h t x) ts (λ u. walk headStep ts u) ≡ over final left → FormulaLeft c s h (t ∷ ts)
+        → walkBy (onFormula c h t x) ts (λ u. walk headStep ts u) ≡ over final left → FormulaLeft c s h (t ∷ ts)
     unfolding Behind Left
     sound-formula c s (formula.go u) q e =
         let r = behind (inFormula c u h) e in
@@ -833,7 +872,7 @@ module _ (final : Head) (left : List Token) (formula-sound : FormulaSound) where
 
   -- the names, by the token
   sound-names : (h : Head) (t : Token) (ts : List Token) → Behind ts → (a : ℕ) (seen : List (List ℕ))
-    → walkBy (onNames a seen h t) ts (λ u. walk headStep ts u) ≡ over final left → length seen ≤ a → NamesLeft a seen h (t ∷ ts)
+      → walkBy (onNames a seen h t) ts (λ u. walk headStep ts u) ≡ over final left → length seen ≤ a → NamesLeft a seen h (t ∷ ts)
   unfolding onNames
   sound-names h (str bs) ts behind a seen e l = sound-new-name h (str bs) ts behind a seen bs refl e l
   sound-names h (int i) ts behind a seen e l = sound-behind-names h (int i) ts behind a seen (ltb (length seen) a) refl e l
@@ -941,5 +980,5 @@ module _ (final : Head) (left : List Token) (formula-sound : FormulaSound) where
         takes = i .takes;
         limits = i .limits;
         started = i .started;
-        accepting = i .accepting
+        accepting = i .accepting;
       }

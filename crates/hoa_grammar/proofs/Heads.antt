@@ -14,29 +14,54 @@ use Rattle.hoa_tokens.specs.declared.Header.the-variants as header-is
 use Rattle.hoa_tokens.specs.declared.Sign.the-variants as sign-is
 use Rattle.hoa_tokens.specs.Token.{Token, int, word, header, str, aname, sign, body, end, abort, finish, bad}
 use Rattle.job_text.specs.Job.{mostJobStates}
+use Rattle.hoa_formula.specs.Cond.{condText}
+use Rattle.hoa_formula.specs.Formulas.{formulaBegin}
 use Rattle.hoa_step.specs.Machine.{Step, go, done, wrong, wantsInt, wantsText}
 use Rattle.hoa_step.specs.Given.{isGiven, notBelow, notAbove}
 use Rattle.hoa_head.specs.declared.Head.{Head}
 use Rattle.hoa_head.specs.declared.Piece.{Piece}
 use Rattle.hoa_head.specs.declared.Piece.the-variants as piece-is
 use Rattle.hoa_head.specs.Head.{mostProps, mostMarks, withStates, withStart, withProps, withMarks, withAccName, withTool, withName}
-use Rattle.hoa_head.specs.Heading.{HeadState, items, statesInt, startInt, propsInt, marksInt, startMore, names, accName, toolText, toolMore, nameText, hints,
-  HeadStep, pieceOf, headStep, onPiece, onItem, onBody, once, onStates, onStart, onProps, onNames, onName, behindNames, unfinished, nameCame}
+use Rattle.hoa_head.specs.Heading.{
+  HeadState,
+  items,
+  statesInt,
+  startInt,
+  propsInt,
+  marksInt,
+  startMore,
+  names,
+  inFormula,
+  accName,
+  toolText,
+  toolMore,
+  nameText,
+  hints,
+  HeadStep,
+  pieceOf,
+  headStep,
+  onPiece,
+  onItem,
+  onBody,
+  once,
+  onStates,
+  onStart,
+  onProps,
+  onNames,
+  onName,
+  behindNames,
+  unfinished,
+  nameCame,
+}
 use Rattle.hoa_grammar.specs.Doc as doc
 use Rattle.hoa_grammar.specs.Doc.{Conj, Hint, hintWord, hintInt, Extra, extraWord, extraInt, extraText, Item, itemText, itemsText, hintsText, extrasText, wordsText, stringsText, perhapsText}
 use Rattle.hoa_grammar.specs.Subset.{Each, eachNone, eachMore, Differ, differNone, differMore, StandardAs}
 use Rattle.hoa_grammar.specs.Walk.{Walk, going, over, faulty, walkBy, walk}
+use Rattle.hoa_grammar.proofs.Opens.{Opens, opensItem, opensBody, HeadWalk, same-step}
+use Rattle.hoa_grammar.proofs.FormulaTexts.{formula-walk}
 use Rattle.hoa_grammar.proofs.Onward.{Onward, same, limit, by-limit, onward-then, onward-more}
 use Rattle.hoa_grammar.proofs.Names.{same-ne}
 use Rattle.hoa_grammar.proofs.Takes.{Takes, takesStates, takesStart, takesProps, takesAcceptance, takesAccName, takesTool, takesName, takesProperties, takesLower, ItemLimit, TakesAll, takesNone, takesMore}
-
-abbrev HeadWalk : Type 0
-HeadWalk = Walk HeadState Head
-
--- a token that may begin an item, or `--BODY--`
-pub data Opens : Token → Type 0 where
-  opensItem : (k : Header) → pieceOf (header k) ≡ piece-is.Item k → Opens (header k)
-  opensBody : Opens body
 
 -- ---- where the token behind is looked at
 
@@ -60,11 +85,6 @@ behind-names : (a : ℕ) (ns : List (List ℕ)) (h : Head) (t : Token) → Opens
 unfolding headStep onNames
 behind-names a ns h (header k) (opensItem _ e) l = rw l refl
 behind-names a ns h body opensBody l = rw l refl
-
--- the same step, and so the same walk
-same-step : (s u : HeadState) (t : Token) (rest : List Token) → headStep s t ≡ headStep u t → walk headStep (t ∷ rest) s ≡ walk headStep (t ∷ rest) u
-unfolding walk
-same-step s u t rest e = ap (λ (x : HeadStep). walkBy x rest (λ v. walk headStep rest v)) e
 
 -- ---- what is passed over
 
@@ -135,7 +155,11 @@ item-walk h _ _ t rest o (takesProps a ns g l d) =
     (onward-then
     (by-limit (ltb mostProps a) (names a [] h) (stringsText ns (t ∷ rest)) _ (λ e m. omega (arith, ltb-true mostProps a e)))
     (pass-names h a t rest o [] ns (all-new ns) d (omega arith)))
-item-walk h _ _ t rest o (takesAcceptance c x condition needs g m) = ?
+item-walk h _ _ t rest o (takesAcceptance c x condition needs g m) =
+    rw g
+    (onward-more
+    (by-limit (ltb mostMarks c) (inFormula c (formulaBegin c) h) (condText x (t ∷ rest)) _ (λ e l. omega (arith, ltb-true mostMarks c e)))
+    (formula-walk c h x condition needs t rest o m))
 item-walk h _ _ t rest o (takesAccName w hs g) = rw g (same (pass-hints (withAccName h) t rest o hs))
 item-walk h _ _ t rest o (takesTool bs second g) = rw g (same (pass-tool (withTool h) t rest o second))
 item-walk h _ _ t rest o (takesName bs g) = rw g (same refl)

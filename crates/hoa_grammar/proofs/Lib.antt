@@ -1,3 +1,7 @@
+-- Leads: tokens that lead through a formula
+pub mod Leads
+-- Opens: the token that may stand behind an item
+pub mod Opens
 -- Pairs: the limit of pairs in a formula
 pub mod Pairs
 -- FormulaTexts: formulas in a header
@@ -30,3 +34,5 @@ pub mod Crowd
 pub mod Accepted
 -- Complete: every text of the subset within the limits is read
 pub mod Complete
+-- Exact: a text is read exactly if it is one of the subset
+pub mod Exact

@@ -14,12 +14,80 @@ use Rattle.hoa_tokens.specs.Token.{Token}
 use Rattle.hoa_formula.specs.declared.machine.Piece.{Piece}
 use Rattle.hoa_formula.specs.declared.machine.Piece.the-variants as piece-is
 use Rattle.hoa_formula.specs.Standard.{FormulaMeaning, standard, short, mostPairs, rabinMeaning}
-use Rattle.hoa_formula.specs.Machines.{Buchi, RabinWants, RabinBehind, StreettWants, StreettBehind, Bare, TruthWants, TruthBehind, Wants, Behind, begin, wantsOpen, wantsInf, wantsFin, wantsTruth,
-  behindClose, behindAnd, behindOr, someWants, someBehind, rabinOpen, rabinInf, rabinFin, rabinClose, rabinAnd, rabinOr, streettOpen, streettFin, streettClose, streettAnd, streettOr, bareOpen,
-  bareFin, bareClose, bareOr, buchiClose, truthClose, rabinDone}
+use Rattle.hoa_formula.specs.Machines.{
+  Buchi,
+  RabinWants,
+  RabinBehind,
+  StreettWants,
+  StreettBehind,
+  Bare,
+  TruthWants,
+  TruthBehind,
+  Wants,
+  Behind,
+  begin,
+  wantsOpen,
+  wantsInf,
+  wantsFin,
+  wantsTruth,
+  behindClose,
+  behindAnd,
+  behindOr,
+  someWants,
+  someBehind,
+  rabinOpen,
+  rabinInf,
+  rabinFin,
+  rabinClose,
+  rabinAnd,
+  rabinOr,
+  streettOpen,
+  streettFin,
+  streettClose,
+  streettAnd,
+  streettOr,
+  bareOpen,
+  bareFin,
+  bareClose,
+  bareOr,
+  buchiClose,
+  truthClose,
+  rabinDone,
+}
 use Rattle.hoa_formula.specs.Formulas as formulas
-use Rattle.hoa_formula.specs.Formulas.{FormulaState, FormulaStep, go, over, wrong, Stage, operand, named, bracket, number, after, state, formulaBegin, goWants, goNamed, goAfter, needsInf, needsFin,
-  onOperand, onNamed, onBracket, onNumber, onAfter, onStage, ends, closes, freeStep, opensPair, tooMany, byDone, meaningOf}
+use Rattle.hoa_formula.specs.Formulas.{
+  FormulaState,
+  FormulaStep,
+  go,
+  over,
+  wrong,
+  Stage,
+  operand,
+  named,
+  bracket,
+  number,
+  after,
+  state,
+  formulaBegin,
+  goWants,
+  goNamed,
+  goAfter,
+  needsInf,
+  needsFin,
+  onOperand,
+  onNamed,
+  onBracket,
+  onNumber,
+  onAfter,
+  onStage,
+  ends,
+  closes,
+  freeStep,
+  opensPair,
+  tooMany,
+  byDone,
+  meaningOf,
+}
 
 -- ---- what holds wherever a step goes
 
@@ -129,7 +197,7 @@ open-beside n (RabinWants.fin m p) w h = λ z.
       buchi-lost = rw (o .buchi-lost) refl;
       truth-lost = rw (o .truth-lost) refl;
       streett-inf = open-streett n (w .streett) (o .streett-inf);
-      bare-inf = open-bare n (w .bare) (o .bare-inf)
+      bare-inf = open-bare n (w .bare) (o .bare-inf);
     }
 open-beside n (RabinWants.inf m p d) w h =
     record {
@@ -137,7 +205,7 @@ open-beside n (RabinWants.inf m p d) w h =
       buchi-lost = rw (h .buchi-lost) refl;
       truth-lost = rw (h .truth-lost) refl;
       streett-lost = rw (h .streett-lost) refl;
-      bare-lost = rw (h .bare-lost) refl
+      bare-lost = rw (h .bare-lost) refl;
     }
 
 fin-streett : (n : ℕ) (s : StreettWants) → (0 < n → InfAtMost n s) → FinAtMost (suc n) (streettFin s)
@@ -162,7 +230,7 @@ fin-beside ns (RabinWants.fin m p) w h =
       buchi-lost = refl;
       truth-lost = refl;
       streett-fin = fin-streett (length ns) (w .streett) (λ z. h z .streett-inf);
-      bare-fin = fin-bare (length ns) (w .bare) (λ z. h z .bare-inf)
+      bare-fin = fin-bare (length ns) (w .bare) (λ z. h z .bare-inf);
     }
 fin-beside ns (RabinWants.inf m p d) w h = tt
 
@@ -181,7 +249,7 @@ inf-beside n (RabinWants.inf m p d) w h =
       buchi-lost = h .buchi-lost;
       truth-lost = refl;
       streett-fin = rw (h .streett-lost) tt;
-      bare-fin = rw (h .bare-lost) tt
+      bare-fin = rw (h .bare-lost) tt;
     }
 
 close-streett : (n : ℕ) (s : StreettBehind) → FinAtMost n s → FinAtMost n (streettClose s)
@@ -205,7 +273,7 @@ close-alone n b h =
       buchi-lost = rw (h .buchi-lost) refl;
       truth-lost = rw (h .truth-lost) refl;
       streett-fin = close-streett n (b .streett) (h .streett-fin);
-      bare-fin = close-bare n (b .bare) (h .bare-fin)
+      bare-fin = close-bare n (b .bare) (h .bare-fin);
     }
 
 close-beside : (n : ℕ) (r : RabinBehind) (b : Behind) → BesideBehind n r b → BesideBehind n (rabinClose r) (behindClose b)
@@ -258,10 +326,10 @@ module _ (c d n : ℕ) (ns : List ℕ) where
   operand-beside w piece-is.And h = tt
   operand-beside w piece-is.Or h = tt
   operand-beside w piece-is.Not h = tt
-  operand-beside w piece-is.Inf h = 
+  operand-beside w piece-is.Inf h =
       tested Beside (ltb n c && someBehind (wantsInf w)) (state d (suc n) (needsInf (w .rabin) ns) (named (wantsInf w)))
       (subst (λ (k : ℕ). BesideBehind k (rabinInf (w .rabin)) (wantsInf w)) (sym (same-needs (w .rabin) ns)) (inf-beside (length ns) (w .rabin) w h))
-  operand-beside w piece-is.Fin h = 
+  operand-beside w piece-is.Fin h =
       tested Beside (ltb n c && someBehind (wantsFin w)) (state d (suc n) (needsFin (w .rabin) ns) (named (wantsFin w))) (fin-beside ns (w .rabin) w h)
   operand-beside w (piece-is.Truth x) h = tested Beside (someBehind (wantsTruth x w)) (state d n ns (after (wantsTruth x w))) tt
   operand-beside w piece-is.Name h = tt
@@ -318,9 +386,9 @@ module _ (c d n : ℕ) (ns : List ℕ) where
   after-beside : (b : Behind) (p : Piece) → BesideBehind (length ns) (b .rabin) b → Wherever Beside (onAfter c d n ns b p)
   after-beside b piece-is.Left h = at-end Beside d (meaningOf c n ns b) 40
   after-beside b piece-is.Right h = closes-beside b d h
-  after-beside b piece-is.And h = 
+  after-beside b piece-is.And h =
       tested-twice Beside (ltb n c) (someWants (behindAnd b)) (state d n ns (operand (behindAnd b))) (and-beside (length ns) (b .rabin) b h)
-  after-beside b piece-is.Or h = 
+  after-beside b piece-is.Or h =
       tested-twice Beside (ltb n c) (someWants (behindOr b)) (state d n ns (operand (behindOr b))) (or-beside (length ns) (b .rabin) b h)
   after-beside b piece-is.Not h = at-end Beside d (meaningOf c n ns b) 40
   after-beside b piece-is.Inf h = at-end Beside d (meaningOf c n ns b) 40
@@ -439,16 +507,16 @@ nine-or n (RabinBehind.group m) h = omega arith
 
 module _ (c d n : ℕ) (ns : List ℕ) where
   operand-nine : (w : Wants) (p : Piece) → NineStage (length ns) (operand w) → Wherever Nine (onOperand c d n ns w p)
-  operand-nine w piece-is.Left h = 
+  operand-nine w piece-is.Left h =
       tested Nine (someWants (wantsOpen w)) (state (suc d) n ns (operand (wantsOpen w))) (only-open w (h .0), nine-open (length ns) (w .rabin) (h .1))
   operand-nine w piece-is.Right h = tt
   operand-nine w piece-is.And h = tt
   operand-nine w piece-is.Or h = tt
   operand-nine w piece-is.Not h = tt
-  operand-nine w piece-is.Inf h = 
+  operand-nine w piece-is.Inf h =
       tested Nine (ltb n c && someBehind (wantsInf w)) (state d (suc n) (needsInf (w .rabin) ns) (named (wantsInf w)))
       (only-inf w (h .0), subst (λ (k : ℕ). NineBehind k (rabinInf (w .rabin))) (sym (same-needs (w .rabin) ns)) (nine-inf (length ns) (w .rabin) (h .1)))
-  operand-nine w piece-is.Fin h = 
+  operand-nine w piece-is.Fin h =
       tested Nine (ltb n c && someBehind (wantsFin w)) (state d (suc n) (needsFin (w .rabin) ns) (named (wantsFin w))) (only-fin w (h .0), nine-fin ns (w .rabin) (h .1))
   operand-nine w (piece-is.Truth x) h = tested Nine (someBehind (wantsTruth x w)) (state d n ns (after (wantsTruth x w))) (only-truth x w (h .0), tt)
   operand-nine w piece-is.Name h = tt
@@ -505,9 +573,9 @@ module _ (c d n : ℕ) (ns : List ℕ) where
   after-nine : (b : Behind) (p : Piece) → NineStage (length ns) (after b) → Wherever Nine (onAfter c d n ns b p)
   after-nine b piece-is.Left h = at-end Nine d (meaningOf c n ns b) 40
   after-nine b piece-is.Right h = closes-nine b d h
-  after-nine b piece-is.And h = 
+  after-nine b piece-is.And h =
       tested-twice Nine (ltb n c) (someWants (behindAnd b)) (state d n ns (operand (behindAnd b))) (only-and b (h .0), nine-and (length ns) (b .rabin) (h .1))
-  after-nine b piece-is.Or h = 
+  after-nine b piece-is.Or h =
       tested-twice Nine (ltb n c) (someWants (behindOr b)) (state d n ns (operand (behindOr b))) (only-or b (h .0), nine-or (length ns) (b .rabin) (h .1))
   after-nine b piece-is.Not h = at-end Nine d (meaningOf c n ns b) 40
   after-nine b piece-is.Inf h = at-end Nine d (meaningOf c n ns b) 40
@@ -554,9 +622,9 @@ module _ (c d n : ℕ) (ns : List ℕ) (h : length ns ≤ mostPairs) where
   operand-few w piece-is.And k = tt
   operand-few w piece-is.Or k = tt
   operand-few w piece-is.Not k = tt
-  operand-few w piece-is.Inf k = 
+  operand-few w piece-is.Inf k =
       tested Few (ltb n c && someBehind (wantsInf w)) (state d (suc n) (needsInf (w .rabin) ns) (named (wantsInf w))) (omega (arith, same-needs (w .rabin) ns))
-  operand-few w piece-is.Fin k = 
+  operand-few w piece-is.Fin k =
       tested Few (ltb n c && someBehind (wantsFin w)) (state d (suc n) (needsFin (w .rabin) ns) (named (wantsFin w))) (few-fin ns w (w .rabin) refl h k)
   operand-few w (piece-is.Truth x) k = tested Few (someBehind (wantsTruth x w)) (state d n ns (after (wantsTruth x w))) h
   operand-few w piece-is.Name k = tt

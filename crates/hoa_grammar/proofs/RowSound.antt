@@ -26,14 +26,65 @@ use Rattle.hoa_rows.specs.declared.Limits.{Limits}
 use Rattle.hoa_rows.specs.declared.Entry.{Entry}
 use Rattle.hoa_rows.specs.declared.Entry.the-variants as entry-is
 use Rattle.hoa_rows.specs.Sig.{sigStep, sigSign, withMark, SigStep}
-use Rattle.hoa_rows.specs.Rows.{Rows, rows, withRow, withSig, withEdge, came, lastRow, RowState, entries, rowNumber, rowName, rowSig, rowMarks, inLabel, target, targetMore, edgeMarks,
-  closing, Kept, RowStep, entryOf, fullRows, wrongEnd, behindRow, onEntry, onNumber, labelled, onSig, onName, onRowMarks, shutLabel, onLabel, onTarget, onMore, onEdgeMarks,
-  closingHeader, onClosing, rowStep}
+use Rattle.hoa_rows.specs.Rows.{
+  Rows,
+  rows,
+  withRow,
+  withSig,
+  withEdge,
+  came,
+  lastRow,
+  RowState,
+  entries,
+  rowNumber,
+  rowName,
+  rowSig,
+  rowMarks,
+  inLabel,
+  target,
+  targetMore,
+  edgeMarks,
+  closing,
+  Kept,
+  RowStep,
+  entryOf,
+  fullRows,
+  wrongEnd,
+  behindRow,
+  onEntry,
+  onNumber,
+  labelled,
+  onSig,
+  onName,
+  onRowMarks,
+  shutLabel,
+  onLabel,
+  onTarget,
+  onMore,
+  onEdgeMarks,
+  closingHeader,
+  onClosing,
+  rowStep,
+}
 use Rattle.hoa_grammar.specs.Doc.{Conj, EdgeTree, Row, conjText, edgeText, edgesText, rowText, rowsText, intsText, perhapsText, perhapsLabel, perhapsSig}
 use Rattle.hoa_grammar.specs.Subset.{Each, eachNone, eachMore, SigFits, sigMarks, marksFrom}
 use Rattle.hoa_grammar.specs.Walk.{Walk, going, over, faulty, walkBy, walk}
-use Rattle.hoa_grammar.proofs.RowTakes.{edgeTree, TakesEdge, takesEdge, EdgeLimit, TakesEdges, takesNoEdge, takesEdgeMore, EdgesLimit, TakesRow, RowLimit, TakesRows, takesNoRow, takesRowMore,
-  RowsLimit}
+use Rattle.hoa_grammar.proofs.RowTakes.{
+  edgeTree,
+  TakesEdge,
+  takesEdge,
+  EdgeLimit,
+  TakesEdges,
+  takesNoEdge,
+  takesEdgeMore,
+  EdgesLimit,
+  TakesRow,
+  RowLimit,
+  TakesRows,
+  takesNoRow,
+  takesRowMore,
+  RowsLimit,
+}
 
 abbrev RowWalk : Type 0
 RowWalk = Walk RowState Kept
@@ -290,7 +341,7 @@ module _ (l : Limits) (final : Kept) (left : List Token) where
 
   -- a test that would have been faulty did not hold
   passed : (b : Bool) (n : ℕ) (x : RowStep) (ts : List Token) (more : RowState → RowWalk) → walkBy (cond b (wrong n) x) ts more ≡ over final left
-    → (b ≡ false) × (walkBy x ts more ≡ over final left)
+      → (b ≡ false) × (walkBy x ts more ≡ over final left)
   passed true n x ts more e = never _ _ e
   passed false n x ts more e = (refl, e)
 
@@ -406,7 +457,7 @@ module _ (l : Limits) (final : Kept) (left : List Token) where
       let r = g .more in
       let row : Row = record { label = none; number = n .q; name = m .name; sig = g .sig; edges = r .es } in
       let fit : TakesRow l b row (r .mid) =
-        record { room = room; no-label = refl; below = n .below; new = n .new; sig-fits = g .fits; edges-fit = r .edges-fit } in
+      record { room = room; no-label = refl; below = n .below; new = n .new; sig-fits = g .fits; edges-fit = r .edges-fit } in
       record {
         es = [];
         mid = b;
@@ -418,14 +469,14 @@ module _ (l : Limits) (final : Kept) (left : List Token) where
         rows-fit = takesRowMore fit (r .rows-fit);
         rows-few = (record { few = n .few; edges-few = r .edges-few }, r .rows-few);
         text =
-          behind-by q
-          (n .text ∙ behind-by refl (m .text ∙ ap (perhapsText (m .name)) (g .text ∙ ap (perhapsSig (g .sig)) (r .text))));
+            behind-by q
+            (n .text ∙ behind-by refl (m .text ∙ ap (perhapsText (m .name)) (g .text ∙ ap (perhapsSig (g .sig)) (r .text))));
         ends-well = r .ends-well;
-        is = r .is
+        is = r .is;
       }
 
   front-edge : (b : Rows) (r' : ℕ) (rs' : List ℕ) (t : Token) (ts : List Token) → b .seen ≡ r' ∷ rs' → t ≡ sign sign-is.BracketLeft
-    → LabelLeft labelBegin b ts → Entries b (t ∷ ts)
+      → LabelLeft labelBegin b ts → Entries b (t ∷ ts)
   unfolding edgesText EdgesLimit EdgeLimit conjText
   front-edge b r' rs' t ts has-row q n =
       let s = label-sound.sound mostLevels (l .props) (n .set) ts (n .rest) (n .walked) in
@@ -433,9 +484,9 @@ module _ (l : Limits) (final : Kept) (left : List Token) where
       let m = k .more in
       let lab = s .label in
       let put : Entries (withEdge (labelSet lab) (k .to) (sigMarks (b .sig) (m .sig)) b) (m .rest) =
-        subst (λ (x : ℕ). Entries (withEdge x (k .to) (sigMarks (b .sig) (m .sig)) b) (m .rest)) (s .set) (m .more) in
+      subst (λ (x : ℕ). Entries (withEdge x (k .to) (sigMarks (b .sig) (m .sig)) b) (m .rest)) (s .set) (m .more) in
       let fit : TakesEdge l b (edgeTree lab (k .to) (m .sig)) (withEdge (labelSet lab) (k .to) (sigMarks (b .sig) (m .sig)) b) =
-        takesEdge lab (k .to) (m .sig) (s .within .fits) (k .below) (m .fits) in
+      takesEdge lab (k .to) (m .sig) (s .within .fits) (k .below) (m .fits) in
       record {
         es = edgeTree lab (k .to) (m .sig) ∷ put .es;
         mid = put .mid;
@@ -447,16 +498,16 @@ module _ (l : Limits) (final : Kept) (left : List Token) where
         rows-fit = put .rows-fit;
         rows-few = put .rows-few;
         text =
-          behind-by q
-          (s .text ∙ ap (λ (us : List Token). labelText lab (sign sign-is.BracketRight ∷ us)) (k .text ∙ behind-by refl (m .text ∙ ap (perhapsSig (m .sig)) (put .text))));
+            behind-by q
+            (s .text ∙ ap (λ (us : List Token). labelText lab (sign sign-is.BracketRight ∷ us)) (k .text ∙ behind-by refl (m .text ∙ ap (perhapsSig (m .sig)) (put .text))));
         ends-well = put .ends-well;
-        is = put .is
+        is = put .is;
       }
 
   -- ---- each place of the rows
 
   wants-int : (f : ℕ → RowStep) (t : Token) (ts : List Token) (more : RowState → RowWalk) → walkBy (wantsInt f t) ts more ≡ over final left
-    → (t ≡ int (intIn t)) × (walkBy (f (intIn t)) ts more ≡ over final left)
+      → (t ≡ int (intIn t)) × (walkBy (f (intIn t)) ts more ≡ over final left)
   unfolding wantsInt
   wants-int f (int i) ts more e = (refl, e)
   wants-int f (word w) ts more e = never _ _ e
@@ -473,7 +524,7 @@ module _ (l : Limits) (final : Kept) (left : List Token) where
   module _ (b : Rows) (t : Token) (ts : List Token) (behind : Behind ts) where
     -- an edge where a row has begun
     sound-edge : (seen : List ℕ) → b .seen ≡ seen → t ≡ sign sign-is.BracketLeft
-      → walkBy (behindRow seen (go (inLabel labelBegin b))) ts (onwards ts) ≡ over final left → Entries b (t ∷ ts)
+        → walkBy (behindRow seen (go (inLabel labelBegin b))) ts (onwards ts) ≡ over final left → Entries b (t ∷ ts)
     unfolding Behind Left
     sound-edge [] q r e = never _ _ e
     sound-edge (x ∷ xs) q r e = front-edge b x xs t ts q r (behind (inLabel labelBegin b) e)
@@ -500,7 +551,7 @@ module _ (l : Limits) (final : Kept) (left : List Token) where
           rows-few = tt;
           text = behind-by q (c .text);
           ends-well = p .0;
-          is = c .is
+          is = c .is;
         }
 
     sound-entry : (x : Entry) → entryOf t ≡ x → walkBy (onEntry l b x) ts (onwards ts) ≡ over final left → Entries b (t ∷ ts)
@@ -530,6 +581,7 @@ module _ (l : Limits) (final : Kept) (left : List Token) where
         not-labelled entry-is.Text e = e
         not-labelled entry-is.Join e = e
         not-labelled (entry-is.Wrong n) e = e
+
         by-number : walkBy (wantsInt (onNumber l b) t) ts (onwards ts) ≡ over final left → NumberLeft b (t ∷ ts)
         by-number e =
             let i = wants-int (onNumber l b) t ts (onwards ts) e in
@@ -543,7 +595,7 @@ module _ (l : Limits) (final : Kept) (left : List Token) where
               below = n .0;
               new = n .1;
               few = leb-false mostJobStates (intIn t) (r .0);
-              more = behind (rowName (withRow (intIn t) b)) (r .1) refl
+              more = behind (rowName (withRow (intIn t) b)) (r .1) refl;
             }
 
     -- without a sig the row bears no marks
@@ -554,7 +606,7 @@ module _ (l : Limits) (final : Kept) (left : List Token) where
           rest = t ∷ ts;
           fits = tt;
           text = refl;
-          more = subst (λ (m : ℕ). Entries (withSig m b) (t ∷ ts)) z r
+          more = subst (λ (m : ℕ). Entries (withSig m b) (t ∷ ts)) z r;
         }
 
     sound-sig : (x : Entry) → entryOf t ≡ x → walkBy (onSig l b x) ts (onwards ts) ≡ over final left → b .sig ≡ 0 → SigLeft b (t ∷ ts)
@@ -594,7 +646,7 @@ module _ (l : Limits) (final : Kept) (left : List Token) where
           rest = r .rest;
           walked = rw q (r .walked);
           few = r .few;
-          more = r .more
+          more = r .more;
         }
     sound-label s (label.shut x) q e =
         let p = passed (ltb 0 x && leb mostJobEdges (length (b .edges))) 42 (go (target x b)) ts (onwards ts) e in
@@ -603,7 +655,7 @@ module _ (l : Limits) (final : Kept) (left : List Token) where
           rest = ts;
           walked = rw q refl;
           few = λ z. leb-false mostJobEdges (length (b .edges)) (not-both (ltb 0 x) (leb mostJobEdges (length (b .edges))) (p .0) (lt-ltb 0 x z));
-          more = behind (target x b) (p .1)
+          more = behind (target x b) (p .1);
         }
     sound-label s (label.wrong n) q e = never _ _ e
 
@@ -619,7 +671,7 @@ module _ (l : Limits) (final : Kept) (left : List Token) where
           text = behind-by (i .0) refl;
           below = p .0;
           few = leb-false mostJobStates (intIn t) (r .0);
-          more = behind (targetMore x (intIn t) b) (r .1)
+          more = behind (targetMore x (intIn t) b) (r .1);
         }
 
   -- behind a target
@@ -675,7 +727,7 @@ module _ (l : Limits) (final : Kept) (left : List Token) where
   sig-token c m bad = fault 40
 
   sound-row-marks : (m : ℕ) (b : Rows) (t : Token) (ts : List Token) → Behind ts → (x : SigStep) → SigToken (l .marks) m t x
-    → walkBy (onRowMarks b x) ts (onwards ts) ≡ over final left → MarksLeft m b (t ∷ ts)
+      → walkBy (onRowMarks b x) ts (onwards ts) ≡ over final left → MarksLeft m b (t ∷ ts)
   unfolding Behind Left intsText marksFrom
   sound-row-marks m b t ts behind _ (aMark i q below) e =
       let r = behind (rowMarks (withMark m i) b) e in
@@ -685,7 +737,7 @@ module _ (l : Limits) (final : Kept) (left : List Token) where
   sound-row-marks m b t ts behind _ (fault n) e = never _ _ e
 
   sound-edge-marks : (m x to : ℕ) (b : Rows) (t : Token) (ts : List Token) → Behind ts → (y : SigStep) → SigToken (l .marks) m t y
-    → walkBy (onEdgeMarks x to b y) ts (onwards ts) ≡ over final left → EdgeMarksLeft m x to b (t ∷ ts)
+      → walkBy (onEdgeMarks x to b y) ts (onwards ts) ≡ over final left → EdgeMarksLeft m x to b (t ∷ ts)
   unfolding Behind Left intsText marksFrom
   sound-edge-marks m x to b t ts behind _ (aMark i q below) e =
       let r = behind (edgeMarks (withMark m i) x to b) e in

@@ -27,14 +27,53 @@ use Rattle.hoa_step.specs.Machine.{Step, go, done, wrong, wantsInt}
 use Rattle.hoa_step.specs.Given.{notBelow}
 use Rattle.hoa_rows.specs.declared.Limits.{Limits}
 use Rattle.hoa_rows.specs.Sig.{sigStep, withMark}
-use Rattle.hoa_rows.specs.Rows.{Rows, rows, withRow, withSig, withEdge, came, RowState, entries, rowNumber, rowName, rowSig, rowMarks, inLabel, target, targetMore, edgeMarks,
-  closing, Kept, RowStep, entryOf, fullRows, behindRow, shutLabel, onLabel, rowStep}
+use Rattle.hoa_rows.specs.Rows.{
+  Rows,
+  rows,
+  withRow,
+  withSig,
+  withEdge,
+  came,
+  RowState,
+  entries,
+  rowNumber,
+  rowName,
+  rowSig,
+  rowMarks,
+  inLabel,
+  target,
+  targetMore,
+  edgeMarks,
+  closing,
+  Kept,
+  RowStep,
+  entryOf,
+  fullRows,
+  behindRow,
+  shutLabel,
+  onLabel,
+  rowStep,
+}
 use Rattle.hoa_grammar.specs.Doc.{Conj, EdgeTree, Row, conjText, edgeText, edgesText, rowText, rowsText, intsText, perhapsText, perhapsLabel, perhapsSig}
 use Rattle.hoa_grammar.specs.Subset.{Each, eachNone, eachMore, SigFits, sigMarks, marksFrom}
 use Rattle.hoa_grammar.specs.Walk.{Walk, going, over, faulty, walkBy, walk}
 use Rattle.hoa_grammar.proofs.Onward.{Onward, same, limit, by-limit, onward-then, onward-more, onward-by, onward-from}
-use Rattle.hoa_grammar.proofs.RowTakes.{edgeTree, TakesEdge, takesEdge, EdgeLimit, TakesEdges, takesNoEdge, takesEdgeMore, EdgesLimit, TakesRow, RowLimit, TakesRows, takesNoRow, takesRowMore,
-  RowsLimit}
+use Rattle.hoa_grammar.proofs.RowTakes.{
+  edgeTree,
+  TakesEdge,
+  takesEdge,
+  EdgeLimit,
+  TakesEdges,
+  takesNoEdge,
+  takesEdgeMore,
+  EdgesLimit,
+  TakesRow,
+  RowLimit,
+  TakesRows,
+  takesNoRow,
+  takesRowMore,
+  RowsLimit,
+}
 
 abbrev RowWalk : Type 0
 RowWalk = Walk RowState Kept
@@ -73,22 +112,22 @@ module _ (levels levels' a x : ℕ) (rest : List Token) (more : levels ≤ level
   Keeps ts = (s : LabelState) → walkWithin levels a s ts ≡ closed x rest → walkWithin levels' a s ts ≡ closed x rest
 
   keeps-wanted : (f : Frame) (fs : List Frame) (ts : List Token) (w : Wanted) → Keeps ts
-    → label.walkBy (onWanted f fs w) ts (λ u. walkWithin levels a u ts) ≡ closed x rest
-    → label.walkBy (onWanted f fs w) ts (λ u. walkWithin levels' a u ts) ≡ closed x rest
+      → label.walkBy (onWanted f fs w) ts (λ u. walkWithin levels a u ts) ≡ closed x rest
+      → label.walkBy (onWanted f fs w) ts (λ u. walkWithin levels' a u ts) ≡ closed x rest
   keeps-wanted f fs ts (wanted-is.Set y) k e = k _ e
   keeps-wanted f fs ts wanted-is.Not k e = k _ e
   keeps-wanted f fs ts wanted-is.Deeper k e = k _ e
   keeps-wanted f fs ts (wanted-is.Wrong n) k e = closed-faulty (sym e)
 
   keeps-shut : (y : ℕ) (fs : List Frame) (ts : List Token) → Keeps ts
-    → label.walkBy (shutLevel y fs) ts (λ u. walkWithin levels a u ts) ≡ closed x rest
-    → label.walkBy (shutLevel y fs) ts (λ u. walkWithin levels' a u ts) ≡ closed x rest
+      → label.walkBy (shutLevel y fs) ts (λ u. walkWithin levels a u ts) ≡ closed x rest
+      → label.walkBy (shutLevel y fs) ts (λ u. walkWithin levels' a u ts) ≡ closed x rest
   keeps-shut y [] ts k e = e
   keeps-shut y (f ∷ fs) ts k e = k _ e
 
   keeps-behind : (o c : ℕ) (fs : List Frame) (ts : List Token) (b : Behind) → Keeps ts
-    → label.walkBy (onBehind o c fs b) ts (λ u. walkWithin levels a u ts) ≡ closed x rest
-    → label.walkBy (onBehind o c fs b) ts (λ u. walkWithin levels' a u ts) ≡ closed x rest
+      → label.walkBy (onBehind o c fs b) ts (λ u. walkWithin levels a u ts) ≡ closed x rest
+      → label.walkBy (onBehind o c fs b) ts (λ u. walkWithin levels' a u ts) ≡ closed x rest
   keeps-behind o c fs ts behind-is.And k e = k _ e
   keeps-behind o c fs ts behind-is.Or k e = k _ e
   keeps-behind o c fs ts behind-is.Shut k e = keeps-shut _ fs ts k e
@@ -96,9 +135,9 @@ module _ (levels levels' a x : ℕ) (rest : List Token) (more : levels ≤ level
 
   -- with room or without
   keeps-room : (f : Frame) (fs : List Frame) (t : Token) (ts : List Token) → Keeps ts
-    → (wanted a (ltb (length fs) levels) t ≡ wanted a (ltb (length fs) levels') t) ⊎ (wanted a (ltb (length fs) levels) t ≡ wanted-is.Wrong 42)
-    → label.walkBy (onWanted f fs (wanted a (ltb (length fs) levels) t)) ts (λ u. walkWithin levels a u ts) ≡ closed x rest
-    → label.walkBy (onWanted f fs (wanted a (ltb (length fs) levels') t)) ts (λ u. walkWithin levels' a u ts) ≡ closed x rest
+      → (wanted a (ltb (length fs) levels) t ≡ wanted a (ltb (length fs) levels') t) ⊎ (wanted a (ltb (length fs) levels) t ≡ wanted-is.Wrong 42)
+      → label.walkBy (onWanted f fs (wanted a (ltb (length fs) levels) t)) ts (λ u. walkWithin levels a u ts) ≡ closed x rest
+      → label.walkBy (onWanted f fs (wanted a (ltb (length fs) levels') t)) ts (λ u. walkWithin levels' a u ts) ≡ closed x rest
   keeps-room f fs t ts k (inl q) e = rw⁻¹ q (keeps-wanted f fs ts (wanted a (ltb (length fs) levels) t) k e)
   keeps-room f fs t ts k (inr q) e = closed-faulty (sym e ∙ ap (λ (w : Wanted). label.walkBy (onWanted f fs w) ts (λ u. walkWithin levels a u ts)) q)
 
@@ -130,15 +169,15 @@ module _ (l : Limits) where
   module _ (b : Rows) where
     -- what shuts a label leads on behind it
     label-step : (s : LabelState) (t : Token) (ts rest : List Token) (x : ℕ) (y : LabelStep)
-      → ((u : LabelState) → walkWithin mostLevels (l .props) u ts ≡ closed x rest → onwards ts (inLabel u b) ≡ walkBy (shutLabel x b) rest (onwards rest))
-      → label.walkBy y ts (λ u. walkWithin mostLevels (l .props) u ts) ≡ closed x rest
-      → walkBy (onLabel b y) ts (onwards ts) ≡ walkBy (shutLabel x b) rest (onwards rest)
+        → ((u : LabelState) → walkWithin mostLevels (l .props) u ts ≡ closed x rest → onwards ts (inLabel u b) ≡ walkBy (shutLabel x b) rest (onwards rest))
+        → label.walkBy y ts (λ u. walkWithin mostLevels (l .props) u ts) ≡ closed x rest
+        → walkBy (onLabel b y) ts (onwards ts) ≡ walkBy (shutLabel x b) rest (onwards rest)
     label-step s t ts rest x (label.go u) ih e = ih u e
     label-step s t ts rest x (label.shut z) ih e = rw (closed-set e, closed-rest e) refl
     label-step s t ts rest x (label.wrong n) ih e = closed-faulty (sym e)
 
     label-shut : (s : LabelState) (ts rest : List Token) (x : ℕ) → walkWithin mostLevels (l .props) s ts ≡ closed x rest
-      → onwards ts (inLabel s b) ≡ walkBy (shutLabel x b) rest (onwards rest)
+        → onwards ts (inLabel s b) ≡ walkBy (shutLabel x b) rest (onwards rest)
     unfolding walk rowStep walkWithin labelStep
     label-shut s [] rest x e = closed-going (sym e)
     label-shut s (t ∷ ts) rest x e =
@@ -150,9 +189,9 @@ module _ (l : Limits) where
       is : w ≡ faulty n left
 
     halt-step : (t : Token) (ts : List Token) (n : ℕ) (y : LabelStep)
-      → ((u : LabelState) → walkWithin mostLevels (l .props) u ts ≡ label.faulty n → Halts n (onwards ts (inLabel u b)))
-      → label.walkBy y ts (λ u. walkWithin mostLevels (l .props) u ts) ≡ label.faulty n
-      → Halts n (walkBy (onLabel b y) ts (onwards ts))
+        → ((u : LabelState) → walkWithin mostLevels (l .props) u ts ≡ label.faulty n → Halts n (onwards ts (inLabel u b)))
+        → label.walkBy y ts (λ u. walkWithin mostLevels (l .props) u ts) ≡ label.faulty n
+        → Halts n (walkBy (onLabel b y) ts (onwards ts))
     halt-step t ts n (label.go u) ih e = ih u e
     halt-step t ts n (label.shut z) ih e = closed-faulty e
     halt-step t ts n (label.wrong k) ih e = record { left = ts; is = ap (λ (m : ℕ). faulty m ts) (faulty-inj e) }
@@ -164,7 +203,7 @@ module _ (l : Limits) where
 
     -- the set of a label that is read, however deep it nests, is the label's
     set-read : (lab : Label) (rest : List Token) (x : ℕ) → labelFits lab (l .props)
-      → walkWithin mostLevels (l .props) labelBegin (labelText lab (sign sign-is.BracketRight ∷ rest)) ≡ closed x rest → x ≡ labelSet lab
+        → walkWithin mostLevels (l .props) labelBegin (labelText lab (sign sign-is.BracketRight ∷ rest)) ≡ closed x rest → x ≡ labelSet lab
     set-read lab rest x f e =
         let m = mostLevels + labelDepth lab in
         closed-set
@@ -173,8 +212,8 @@ module _ (l : Limits) where
 
     -- a label leads on behind it, or nests too deep
     label-walk : (lab : Label) (rest : List Token) → labelFits lab (l .props)
-      → Onward (labelDepth lab ≤ mostLevels) (onwards (labelText lab (sign sign-is.BracketRight ∷ rest)) (inLabel labelBegin b))
-      (walkBy (shutLabel (labelSet lab) b) rest (onwards rest))
+        → Onward (labelDepth lab ≤ mostLevels) (onwards (labelText lab (sign sign-is.BracketRight ∷ rest)) (inLabel labelBegin b))
+        (walkBy (shutLabel (labelSet lab) b) rest (onwards rest))
     label-walk lab rest f = by-read (label-complete.any-label-read (Unit {0}) mostLevels (l .props) lab rest (λ _. f))
       where
         by-read : label-complete.Read (Unit {0}) rest (walkWithin mostLevels (l .props) labelBegin (labelText lab (sign sign-is.BracketRight ∷ rest)))
@@ -194,13 +233,13 @@ module _ (l : Limits) where
     -- ---- sigs
 
     pass-row-marks : (m : ℕ) (is : List ℕ) (rest : List Token) → Each (λ i. i < l .marks) is
-      → onwards (intsText is (sign sign-is.BraceRight ∷ rest)) (rowMarks m b) ≡ onwards rest (entries (withSig (marksFrom m is) b))
+        → onwards (intsText is (sign sign-is.BraceRight ∷ rest)) (rowMarks m b) ≡ onwards rest (entries (withSig (marksFrom m is) b))
     unfolding walk rowStep sigStep intsText marksFrom
     pass-row-marks m [] rest eachNone = refl
     pass-row-marks m (i ∷ is) rest (eachMore h hs) = rw (lt-ltb i (l .marks) h) (pass-row-marks (withMark m i) is rest hs)
 
     pass-edge-marks : (x to m : ℕ) (is : List ℕ) (rest : List Token) → Each (λ i. i < l .marks) is
-      → onwards (intsText is (sign sign-is.BraceRight ∷ rest)) (edgeMarks m x to b) ≡ onwards rest (entries (withEdge x to (marksFrom m is) b))
+        → onwards (intsText is (sign sign-is.BraceRight ∷ rest)) (edgeMarks m x to b) ≡ onwards rest (entries (withEdge x to (marksFrom m is) b))
     unfolding walk rowStep sigStep intsText marksFrom
     pass-edge-marks x to m [] rest eachNone = refl
     pass-edge-marks x to m (i ∷ is) rest (eachMore h hs) = rw (lt-ltb i (l .marks) h) (pass-edge-marks x to (withMark m i) is rest hs)
@@ -232,7 +271,7 @@ module _ (l : Limits) where
 
   module _ (b : Rows) (t : Token) (rest : List Token) (o : Enters t) where
     row-sig-walk : (sig : Option (List ℕ)) → SigFits (l .marks) sig → b .sig ≡ 0
-      → onwards (perhapsSig sig (t ∷ rest)) (rowSig b) ≡ onwards (t ∷ rest) (entries (withSig (sigMarks 0 sig) b))
+        → onwards (perhapsSig sig (t ∷ rest)) (rowSig b) ≡ onwards (t ∷ rest) (entries (withSig (sigMarks 0 sig) b))
     unfolding walk rowStep entryOf
     row-sig-walk none f z =
         same-step (rowSig b) (entries b) t rest (behind-sig b t o) ∙ ap (λ (m : ℕ). onwards (t ∷ rest) (entries (withSig m b))) z
@@ -245,7 +284,7 @@ module _ (l : Limits) where
     row-name-walk none (some is) = refl
 
     edge-sig-walk : (x to : ℕ) (sig : Option (List ℕ)) → SigFits (l .marks) sig
-      → onwards (perhapsSig sig (t ∷ rest)) (targetMore x to b) ≡ onwards (t ∷ rest) (entries (withEdge x to (sigMarks (b .sig) sig) b))
+        → onwards (perhapsSig sig (t ∷ rest)) (targetMore x to b) ≡ onwards (t ∷ rest) (entries (withEdge x to (sigMarks (b .sig) sig) b))
     unfolding walk rowStep entryOf
     edge-sig-walk x to none f = same-step (targetMore x to b) (entries (withEdge x to (b .sig) b)) t rest (behind-target b x to t o)
     edge-sig-walk x to (some is) f = pass-edge-marks b x to (b .sig) is (t ∷ rest) f
@@ -254,7 +293,7 @@ module _ (l : Limits) where
 
     -- behind the label: the set's limit, the target, its limit, the sig
     target-walk : (x to : ℕ) (sig : Option (List ℕ)) → notBelow to (l .states) ≡ false → SigFits (l .marks) sig
-      → Onward (to < mostJobStates) (onwards (int to ∷ perhapsSig sig (t ∷ rest)) (target x b)) (onwards (t ∷ rest) (entries (withEdge x to (sigMarks (b .sig) sig) b)))
+        → Onward (to < mostJobStates) (onwards (int to ∷ perhapsSig sig (t ∷ rest)) (target x b)) (onwards (t ∷ rest) (entries (withEdge x to (sigMarks (b .sig) sig) b)))
     unfolding walk rowStep wantsInt
     target-walk x to sig below f =
         rw below
@@ -265,12 +304,12 @@ module _ (l : Limits) where
 
     -- where a row has begun an edge may
     edge-opens : (r : ℕ) (rs : List ℕ) (us : List Token) → b .seen ≡ r ∷ rs
-      → onwards (sign sign-is.BracketLeft ∷ us) (entries b) ≡ onwards us (inLabel labelBegin b)
+        → onwards (sign sign-is.BracketLeft ∷ us) (entries b) ≡ onwards us (inLabel labelBegin b)
     unfolding walk rowStep entryOf
     edge-opens r rs us q = ap (λ (seen : List ℕ). walkBy (behindRow seen (go (inLabel labelBegin b))) us (onwards us)) q
 
     pub edge-walk : (r : ℕ) (rs : List ℕ) (e : EdgeTree) (b' : Rows) → b .seen ≡ r ∷ rs → (f : TakesEdge l b e b')
-      → Onward (EdgeLimit l f) (onwards (edgeText e (t ∷ rest)) (entries b)) (onwards (t ∷ rest) (entries b'))
+        → Onward (EdgeLimit l f) (onwards (edgeText e (t ∷ rest)) (entries b)) (onwards (t ∷ rest) (entries b'))
     unfolding conjText EdgeLimit
     edge-walk r rs _ _ q (takesEdge lab to sig fits below sig-fits) =
         onward-from
@@ -308,7 +347,7 @@ module _ (l : Limits) where
   edge-seen b _ _ (takesEdge lab to sig _ _ _) = refl
 
   edges-walk : (r : ℕ) (rs : List ℕ) (b b' : Rows) (es : List EdgeTree) (ts : List Token) → b .seen ≡ r ∷ rs → Front ts → (fs : TakesEdges l b es b')
-    → Onward (EdgesLimit l fs) (onwards (edgesText es ts) (entries b)) (onwards ts (entries b'))
+      → Onward (EdgesLimit l fs) (onwards (edgesText es ts) (entries b)) (onwards ts (entries b'))
   unfolding edgesText EdgesLimit
   edges-walk r rs b b' _ ts q front (takesNoEdge e) = same (ap (λ (x : Rows). onwards ts (entries x)) e)
   edges-walk r rs b b'' _ ts q front (takesEdgeMore {b' = b'} {e = e} {es = es} f fs) =
@@ -319,9 +358,9 @@ module _ (l : Limits) where
 
   -- a row, up to its edges
   row-begins : (b : Rows) (r : Row) (t : Token) (rest : List Token) (b' : Rows) → Enters t → (f : TakesRow l b r b')
-    → Onward (r .number < mostJobStates)
-    (onwards (header header-is.State ∷ perhapsLabel (r .label) (int (r .number) ∷ perhapsText (r .name) (perhapsSig (r .sig) (t ∷ rest)))) (entries b))
-    (onwards (t ∷ rest) (entries (withSig (sigMarks 0 (r .sig)) (withRow (r .number) b))))
+      → Onward (r .number < mostJobStates)
+      (onwards (header header-is.State ∷ perhapsLabel (r .label) (int (r .number) ∷ perhapsText (r .name) (perhapsSig (r .sig) (t ∷ rest)))) (entries b))
+      (onwards (t ∷ rest) (entries (withSig (sigMarks 0 (r .sig)) (withRow (r .number) b))))
   unfolding walk rowStep entryOf wantsInt
   row-begins b r t rest b' o f =
       rw (f .room, f .no-label, f .below, f .new)
@@ -332,17 +371,17 @@ module _ (l : Limits) where
       ∙ row-sig-walk (withRow (r .number) b) t rest o (r .sig) (f .sig-fits) refl))
 
   row-walk : (b b' : Rows) (r : Row) (ts : List Token) → Front ts → (f : TakesRow l b r b')
-    → Onward (RowLimit l f) (onwards (rowText r ts) (entries b)) (onwards ts (entries b'))
+      → Onward (RowLimit l f) (onwards (rowText r ts) (entries b)) (onwards ts (entries b'))
   row-walk b b' r ts front f =
       let b0 = withSig (sigMarks 0 (r .sig)) (withRow (r .number) b) in
       let here = edges-front b0 b' (r .edges) ts (f .edges-fit) front in
       let first : Onward (r .number < mostJobStates) (onwards (rowText r ts) (entries b)) (onwards (edgesText (r .edges) ts) (entries b0)) =
-        rw (here .is) (row-begins b r (here .token) (here .rest) b' (here .enters) f) in
+      rw (here .is) (row-begins b r (here .token) (here .rest) b' (here .enters) f) in
       onward-by (λ m. (m .few, m .edges-few)) (onward-more first (edges-walk (r .number) (b .seen) b0 b' (r .edges) ts refl front (f .edges-fit)))
 
   -- the rows lead on as they fit
   pub rows-walk : (b b' : Rows) (rs : List Row) (left : List Token) (fs : TakesRows l b rs b')
-    → Onward (RowsLimit l fs) (onwards (rowsText rs (end ∷ left)) (entries b)) (onwards (end ∷ left) (entries b'))
+      → Onward (RowsLimit l fs) (onwards (rowsText rs (end ∷ left)) (entries b)) (onwards (end ∷ left) (entries b'))
   unfolding rowsText RowsLimit
   rows-walk b b' _ left (takesNoRow e) = same (ap (λ (x : Rows). onwards (end ∷ left) (entries x)) e)
   rows-walk b b'' _ left (takesRowMore {b' = b'} {r = r} {rs = rs} f fs) =

@@ -20,10 +20,42 @@ use Rattle.hoa_step.specs.Given.{notBelow}
 use Rattle.hoa_rows.specs.declared.Limits.{Limits}
 use Rattle.hoa_rows.specs.Rows.{Rows, rows, withRow, withSig, withEdge, kept, came, lastRow, fullRows, wrongEnd}
 use Rattle.hoa_grammar.specs.Doc.{Conj, EdgeTree, Row}
-use Rattle.hoa_grammar.specs.Subset.{Each, eachNone, eachMore, Differ, differNone, differMore, SigFits, sigMarks, EdgeSays, EdgesSay, noEdges, moreEdges, RowSays, RowsSay, noRows, moreRows,
-  numbersOf, LabelLimit}
-use Rattle.hoa_grammar.proofs.RowTakes.{edgeTree, TakesEdge, takesEdge, EdgeLimit, TakesEdges, takesNoEdge, takesEdgeMore, EdgesLimit, TakesRow, RowLimit, TakesRows, takesNoRow, takesRowMore,
-  RowsLimit}
+use Rattle.hoa_grammar.specs.Subset.{
+  Each,
+  eachNone,
+  eachMore,
+  Differ,
+  differNone,
+  differMore,
+  SigFits,
+  sigMarks,
+  EdgeSays,
+  EdgesSay,
+  noEdges,
+  moreEdges,
+  RowSays,
+  RowsSay,
+  noRows,
+  moreRows,
+  numbersOf,
+  LabelLimit,
+}
+use Rattle.hoa_grammar.proofs.RowTakes.{
+  edgeTree,
+  TakesEdge,
+  takesEdge,
+  EdgeLimit,
+  TakesEdges,
+  takesNoEdge,
+  takesEdgeMore,
+  EdgesLimit,
+  TakesRow,
+  RowLimit,
+  TakesRows,
+  takesNoRow,
+  takesRowMore,
+  RowsLimit,
+}
 
 -- ---- parts of what holds of each
 
@@ -82,7 +114,7 @@ module _ (l : Limits) (n : ℕ) (six : l .props ≤ 6) (below : (q : ℕ) → q 
     few : n ≤ mostJobStates → LabelLimit (e .label) → length (b .edges) + length xs ≤ mostJobEdges → EdgeLimit l takes
 
   edge-takes : (b : Rows) (q m : ℕ) (e : EdgeTree) (xs : List Edge) → lastRow (b .seen) ≡ q → b .sig ≡ m
-    → EdgeSays n (l .props) (l .marks) q m e xs → EdgeTaken b e xs
+      → EdgeSays n (l .props) (l .marks) q m e xs → EdgeTaken b e xs
   unfolding EdgeLimit
   edge-takes b q m _ _ row marks (EdgeSays.kept {l = lab} {to = to} {sig = sig} fits t s holds) =
       let some-set : labelSet lab ≡ 0 → ⊥ = satisfiable (l .props) lab (labelSet lab) six fits (meaning (l .props) six lab fits) .1 holds in
@@ -90,13 +122,13 @@ module _ (l : Limits) (n : ℕ) (six : l .props ≤ 6) (below : (q : ℕ) → q 
         last = withEdge (labelSet lab) to (sigMarks (b .sig) sig) b;
         takes = takesEdge lab to sig fits (below to t) s;
         edges-are =
-          ap (λ ys. b .edges ++ ys)
-          (kept-some (labelSet lab) (lastRow (b .seen)) to (sigMarks (b .sig) sig) some-set
-          ∙ (λ i. edge (row i) to (sigMarks (marks i) sig) ∷ []));
+            ap (λ ys. b .edges ++ ys)
+            (kept-some (labelSet lab) (lastRow (b .seen)) to (sigMarks (b .sig) sig) some-set
+            ∙ (λ i. edge (row i) to (sigMarks (marks i) sig) ∷ []));
         seen-are = refl;
         sig-is = refl;
         small = λ s. omega arith;
-        few = λ few-states flat few-edges. (flat, ((λ z. omega arith), omega arith))
+        few = λ few-states flat few-edges. (flat, ((λ z. omega arith), omega arith));
       }
   edge-takes b q m _ _ row marks (EdgeSays.dropped {l = lab} {to = to} {sig = sig} fits t s fails) =
       let none-set : labelSet lab ≡ 0 = not-some (labelSet lab) (λ h. fails (satisfiable (l .props) lab (labelSet lab) six fits (meaning (l .props) six lab fits) .0 h)) in
@@ -107,7 +139,7 @@ module _ (l : Limits) (n : ℕ) (six : l .props ≤ 6) (below : (q : ℕ) → q 
         seen-are = refl;
         sig-is = refl;
         small = λ s. omega arith;
-        few = λ few-states flat few-edges. (flat, ((λ (z : 0 < labelSet lab). absurd (omega arith)), omega arith))
+        few = λ few-states flat few-edges. (flat, ((λ (z : 0 < labelSet lab). absurd (omega arith)), omega arith));
       }
 
   record EdgesTaken (b : Rows) (es : List EdgeTree) (xs : List Edge) : Type 0 where
@@ -119,7 +151,7 @@ module _ (l : Limits) (n : ℕ) (six : l .props ≤ 6) (below : (q : ℕ) → q 
     few : n ≤ mostJobStates → Each (λ e. LabelLimit (e .label)) es → length (b .edges) + length xs ≤ mostJobEdges → EdgesLimit l takes
 
   edges-take : (b : Rows) (q m : ℕ) (es : List EdgeTree) (xs : List Edge) → lastRow (b .seen) ≡ q → b .sig ≡ m
-    → EdgesSay n (l .props) (l .marks) q m es xs → EdgesTaken b es xs
+      → EdgesSay n (l .props) (l .marks) q m es xs → EdgesTaken b es xs
   unfolding EdgesLimit
   edges-take b q m _ _ row marks noEdges =
       record {
@@ -128,7 +160,7 @@ module _ (l : Limits) (n : ℕ) (six : l .props ≤ 6) (below : (q : ℕ) → q 
         edges-are = sym (append-nil (b .edges));
         seen-are = refl;
         small = λ s. s;
-        few = λ _ _ _. tt
+        few = λ _ _ _. tt;
       }
   edges-take b q m _ _ row marks (moreEdges {e = e} {es = es} {xs = xs} {ys = ys} s ss) =
       let f = edge-takes b q m e xs row marks s in
@@ -141,7 +173,7 @@ module _ (l : Limits) (n : ℕ) (six : l .props ≤ 6) (below : (q : ℕ) → q 
         seen-are = r .seen-are ∙ f .seen-are;
         small = λ s. r .small (f .small s);
         few = λ few-states flat few-edges.
-          (f .few few-states (each-head flat) (omega (arith, length-append xs ys)), r .few few-states (each-tail flat) (omega (arith, length-append xs ys)))
+            (f .few few-states (each-head flat) (omega (arith, length-append xs ys)), r .few few-states (each-tail flat) (omega (arith, length-append xs ys)));
       }
 
   -- ---- rows that are said
@@ -167,8 +199,8 @@ module _ (l : Limits) (n : ℕ) (six : l .props ≤ 6) (below : (q : ℕ) → q 
     pub few : n ≤ mostJobStates → Each Flat rs → length (b .edges) + length xs ≤ mostJobEdges → RowsLimit l takes
 
   pub rows-take : (b : Rows) (rs : List Row) (xs : List Edge)
-    → ((k : ℕ) → k < length (b .seen) + length rs → notBelow k (l .states) ≡ false)
-    → New (b .seen) (numbersOf rs) → Differ (numbersOf rs) → RowsSay n (l .props) (l .marks) rs xs → RowsTaken b rs xs
+      → ((k : ℕ) → k < length (b .seen) + length rs → notBelow k (l .states) ≡ false)
+      → New (b .seen) (numbersOf rs) → Differ (numbersOf rs) → RowsSay n (l .props) (l .marks) rs xs → RowsTaken b rs xs
   unfolding RowsLimit
   rows-take b _ _ room new differ noRows =
       record {
@@ -177,24 +209,24 @@ module _ (l : Limits) (n : ℕ) (six : l .props ≤ 6) (below : (q : ℕ) → q 
         edges-are = sym (append-nil (b .edges));
         many = omega arith;
         small = λ s. s;
-        few = λ _ _ _. tt
+        few = λ _ _ _. tt;
       }
   rows-take b _ _ room new differ (moreRows {r = r} {rs = rs} {xs = xs} {ys = ys} s ss) =
       let b0 = withSig (sigMarks 0 (r .sig)) (withRow (r .number) b) in
       let f = edges-take b0 (r .number) (sigMarks 0 (r .sig)) (r .edges) xs refl refl (s .edges-say) in
       let fit : TakesRow l b r (f .last) =
-        record {
-          room = room (length (b .seen)) (omega arith);
-          no-label = s .no-label;
-          below = below (r .number) (s .below);
-          new = each-head new;
-          sig-fits = s .sig-fits;
-          edges-fit = f .takes
-        } in
+      record {
+        room = room (length (b .seen)) (omega arith);
+        no-label = s .no-label;
+        below = below (r .number) (s .below);
+        new = each-head new;
+        sig-fits = s .sig-fits;
+        edges-fit = f .takes;
+      } in
       let seen : length (f .last .seen) ≡ suc (length (b .seen)) = ap length (f .seen-are) in
       let next =
-        rows-take (f .last) rs ys (λ k h. room k (omega (arith, seen)))
-        (subst (λ (qs : List ℕ). New qs (numbersOf rs)) (sym (f .seen-are)) (still-new (r .number) (b .seen) (numbersOf rs) (differ-head differ) (each-tail new))) (differ-tail differ) ss in
+      rows-take (f .last) rs ys (λ k h. room k (omega (arith, seen)))
+      (subst (λ (qs : List ℕ). New qs (numbersOf rs)) (sym (f .seen-are)) (still-new (r .number) (b .seen) (numbersOf rs) (differ-head differ) (each-tail new))) (differ-tail differ) ss in
       let n1 : length (f .last .edges) ≡ length (b .edges) + length xs = ap length (f .edges-are) ∙ length-append (b .edges) xs in
       record {
         last = next .last;
@@ -202,9 +234,10 @@ module _ (l : Limits) (n : ℕ) (six : l .props ≤ 6) (below : (q : ℕ) → q 
         edges-are = next .edges-are ∙ ap (λ zs. zs ++ ys) (f .edges-are) ∙ append-assoc (b .edges) xs ys;
         many = omega (arith, next .many, seen);
         small = λ z. next .small (f .small (omega (arith, s .below)));
-        few = λ few-states flat few-edges.
-          (record { few = omega (arith, s .below); edges-few = f .few few-states (each-head flat) (omega (arith, length-append xs ys)) },
-          next .few few-states (each-tail flat) (omega (arith, n1, length-append xs ys)))
+        few = λ few-states flat few-edges. (
+          record { few = omega (arith, s .below); edges-few = f .few few-states (each-head flat) (omega (arith, length-append xs ys)) },
+          next .few few-states (each-tail flat) (omega (arith, n1, length-append xs ys)),
+        );
       }
 
 -- ---- from what fits to what is said
@@ -252,6 +285,7 @@ module _ (l : Limits) (n most : ℕ) (six : l .props ≤ 6) (within : (q : ℕ) 
     where
       both : (labelSet lab ≡ 0 → ⊥) ↔ Satisfiable (l .props) lab
       both = satisfiable (l .props) lab (labelSet lab) six fits (meaning (l .props) six lab fits)
+
       by : (labelSet lab ≡ 0) ⊎ (labelSet lab ≡ 0 → ⊥) → EdgeSaid b (edgeTree lab to sig) (withEdge (labelSet lab) to (sigMarks (b .sig) sig) b)
       by (inl z) =
           record {
@@ -260,7 +294,7 @@ module _ (l : Limits) (n most : ℕ) (six : l .props ≤ 6) (within : (q : ℕ) 
             edges-are = ap (λ ys. b .edges ++ ys) (kept-none (labelSet lab) (lastRow (b .seen)) to (sigMarks (b .sig) sig) z);
             seen-are = refl;
             sig-is = refl;
-            grows = omega arith
+            grows = omega arith;
           }
       by (inr z) =
           record {
@@ -269,7 +303,7 @@ module _ (l : Limits) (n most : ℕ) (six : l .props ≤ 6) (within : (q : ℕ) 
             edges-are = ap (λ ys. b .edges ++ ys) (kept-some (labelSet lab) (lastRow (b .seen)) to (sigMarks (b .sig) sig) z);
             seen-are = refl;
             sig-is = refl;
-            grows = omega arith
+            grows = omega arith;
           }
 
   record EdgesSaid (b : Rows) (es : List EdgeTree) (last : Rows) : Type 0 where
@@ -286,7 +320,7 @@ module _ (l : Limits) (n most : ℕ) (six : l .props ≤ 6) (within : (q : ℕ) 
         says = λ m. noEdges;
         edges-are = ap (λ (x : Rows). x .edges) (sym e) ∙ sym (append-nil (b .edges));
         seen-are = ap (λ (x : Rows). x .seen) (sym e);
-        grows = subst (λ (x : Rows). b .largest ≤ x .largest) e (omega arith)
+        grows = subst (λ (x : Rows). b .largest ≤ x .largest) e (omega arith);
       }
   edges-say b last _ (takesEdgeMore {b' = b'} {e = e} {es = es} f fs) =
       let o = edge-says b b' e f in
@@ -294,12 +328,12 @@ module _ (l : Limits) (n most : ℕ) (six : l .props ≤ 6) (within : (q : ℕ) 
       record {
         xs = o .xs ++ r .xs;
         says = λ m.
-          moreEdges (o .says (omega (arith, r .grows)))
-          (subst (λ (q : ℕ). EdgesSay n (l .props) (l .marks) q (b .sig) es (r .xs)) (ap lastRow (o .seen-are))
-          (subst (λ (s : ℕ). EdgesSay n (l .props) (l .marks) (lastRow (b' .seen)) s es (r .xs)) (o .sig-is) (r .says m)));
+            moreEdges (o .says (omega (arith, r .grows)))
+            (subst (λ (q : ℕ). EdgesSay n (l .props) (l .marks) q (b .sig) es (r .xs)) (ap lastRow (o .seen-are))
+            (subst (λ (s : ℕ). EdgesSay n (l .props) (l .marks) (lastRow (b' .seen)) s es (r .xs)) (o .sig-is) (r .says m)));
         edges-are = r .edges-are ∙ ap (λ zs. zs ++ r .xs) (o .edges-are) ∙ append-assoc (b .edges) (o .xs) (r .xs);
         seen-are = r .seen-are ∙ o .seen-are;
-        grows = omega (arith, o .grows, r .grows)
+        grows = omega (arith, o .grows, r .grows);
       }
 
   pub record RowsSaid (b : Rows) (rs : List Row) (last : Rows) : Type 0 where
@@ -333,7 +367,7 @@ module _ (l : Limits) (n most : ℕ) (six : l .props ≤ 6) (within : (q : ℕ) 
         many = subst (λ (x : Rows). length (x .seen) ≡ length (b .seen) + 0) e (omega arith);
         grows = subst (λ (x : Rows). b .largest ≤ x .largest) e (omega arith);
         new = eachNone;
-        differ = differNone
+        differ = differNone;
       }
   rows-say b last _ (takesRowMore {b' = b'} {r = r} {rs = rs} f fs) =
       let b0 = withSig (sigMarks 0 (r .sig)) (withRow (r .number) b) in
@@ -341,21 +375,21 @@ module _ (l : Limits) (n most : ℕ) (six : l .props ≤ 6) (within : (q : ℕ) 
       let next = rows-say b' last rs fs in
       let seen : b' .seen ≡ r .number ∷ b .seen = o .seen-are in
       let news : Each (λ q. came q (r .number ∷ b .seen) ≡ false) (numbersOf rs) =
-        subst (λ (qs : List ℕ). Each (λ q. came q qs ≡ false) (numbersOf rs)) seen (next .new) in
+      subst (λ (qs : List ℕ). Each (λ q. came q qs ≡ false) (numbersOf rs)) seen (next .new) in
       record {
         xs = o .xs ++ next .xs;
         says = λ m.
-          moreRows
-          (record {
-            no-label = f .no-label;
-            below = within (r .number) (f .below) (omega (arith, o .grows, next .grows));
-            sig-fits = f .sig-fits;
-            edges-say = o .says (omega (arith, next .grows))
-          })
-          (next .says m);
+            moreRows
+            (record {
+              no-label = f .no-label;
+              below = within (r .number) (f .below) (omega (arith, o .grows, next .grows));
+              sig-fits = f .sig-fits;
+              edges-say = o .says (omega (arith, next .grows));
+            })
+            (next .says m);
         edges-are = next .edges-are ∙ ap (λ zs. zs ++ next .xs) (o .edges-are) ∙ append-assoc (b .edges) (o .xs) (next .xs);
         many = omega (arith, next .many, ap length seen);
         grows = omega (arith, o .grows, next .grows);
         new = eachMore {x = r .number} (f .new) (fewer-seen (r .number) (b .seen) (numbersOf rs) news);
-        differ = differMore (each-differs (r .number) (b .seen) (numbersOf rs) news) (next .differ)
+        differ = differMore (each-differs (r .number) (b .seen) (numbersOf rs) news) (next .differ);
       }

@@ -19,8 +19,43 @@ use Rattle.hoa_rows.specs.declared.Limits.{Limits}
 use Rattle.hoa_rows.specs.declared.Entry.{Entry}
 use Rattle.hoa_rows.specs.declared.Entry.the-variants as entry-is
 use Rattle.hoa_rows.specs.Sig.{SigStep, sigStep}
-use Rattle.hoa_rows.specs.Rows.{Rows, Kept, RowState, entries, rowNumber, rowName, rowSig, rowMarks, inLabel, target, targetMore, edgeMarks, closing, RowStep, entryOf, fullRows, wrongEnd, came, behindRow, onEntry,
-  onNumber, labelled, onSig, onName, onRowMarks, shutLabel, onLabel, onTarget, onMore, onEdgeMarks, closingHeader, onClosing, rowStep, withRow, withEdge}
+use Rattle.hoa_rows.specs.Rows.{
+  Rows,
+  Kept,
+  RowState,
+  entries,
+  rowNumber,
+  rowName,
+  rowSig,
+  rowMarks,
+  inLabel,
+  target,
+  targetMore,
+  edgeMarks,
+  closing,
+  RowStep,
+  entryOf,
+  fullRows,
+  wrongEnd,
+  came,
+  behindRow,
+  onEntry,
+  onNumber,
+  labelled,
+  onSig,
+  onName,
+  onRowMarks,
+  shutLabel,
+  onLabel,
+  onTarget,
+  onMore,
+  onEdgeMarks,
+  closingHeader,
+  onClosing,
+  rowStep,
+  withRow,
+  withEdge,
+}
 use Rattle.hoa_grammar.specs.Walk.{Walk, going, over, faulty, walkBy, walk, tokensOf}
 
 -- ---- runs and walks
@@ -57,8 +92,8 @@ module _ {S D : Type 0} (step : S → Token → Step S D) where
   same-end d d' ps qs e = λ i. over (ap (doneOr d') e i) (tokensOf (ap restIs e i))
 
   run-step : (x : Step S D) (place : ℕ) (ps qs : List Placed) (d : D)
-    → ((u : S) → run step ps u ≡ doneAt d qs → walk step (tokensOf ps) u ≡ over d (tokensOf qs))
-    → endBy x place ps (λ u. run step ps u) ≡ doneAt d qs → walkBy x (tokensOf ps) (λ u. walk step (tokensOf ps) u) ≡ over d (tokensOf qs)
+      → ((u : S) → run step ps u ≡ doneAt d qs → walk step (tokensOf ps) u ≡ over d (tokensOf qs))
+      → endBy x place ps (λ u. run step ps u) ≡ doneAt d qs → walkBy x (tokensOf ps) (λ u. walk step (tokensOf ps) u) ≡ over d (tokensOf qs)
   run-step (go u) place ps qs d ih e = ih u e
   run-step (done d') place ps qs d ih e = same-end d d' ps qs e
   run-step (wrong n) place ps qs d ih e = wrong-done e
@@ -90,8 +125,8 @@ module _ {S D : Type 0} (step : S → Token → Step S D) where
   leftOf (faulty n ts) = []
 
   ran-step : (p : Placed) (ps : List Placed) (s : S) (d : D) (us : List Token) (x : Step S D) → step s (p .token) ≡ x
-    → ((u : S) → walk step (tokensOf ps) u ≡ over d us → Ran ps u d us)
-    → walkBy x (tokensOf ps) (λ u. walk step (tokensOf ps) u) ≡ over d us → Ran (p ∷ ps) s d us
+      → ((u : S) → walk step (tokensOf ps) u ≡ over d us → Ran ps u d us)
+      → walkBy x (tokensOf ps) (λ u. walk step (tokensOf ps) u) ≡ over d us → Ran (p ∷ ps) s d us
   unfolding run isOver
   ran-step p ps s d us (go u) q ih e =
       let r = ih u e in
@@ -138,15 +173,15 @@ behind text k at t = by (not-finished t (some k text at))
 
 module _ {S D : Type 0} (step : S → Token → Step S D) (text : List ℕ) where
   left-step : (x : Step S D) (place : ℕ) (ps qs : List Placed) (d : D) → Behind text ps
-    → ((u : S) → run step ps u ≡ doneAt d qs → Behind text qs)
-    → endBy x place ps (λ u. run step ps u) ≡ doneAt d qs → Behind text qs
+      → ((u : S) → run step ps u ≡ doneAt d qs → Behind text qs)
+      → endBy x place ps (λ u. run step ps u) ≡ doneAt d qs → Behind text qs
   left-step (go u) place ps qs d b ih e = ih u e
   left-step (done d') place ps qs d b ih e = subst (Behind text) (ap (restIs step) e) b
   left-step (wrong n) place ps qs d b ih e = wrong-done step e
 
   by-rest : (t : Token) (k next : ℕ) (u : S) (d : D) (qs : List Placed) → (run step (some k text next) u ≡ doneAt d qs → Behind text qs)
-    → (t ≡ finish) ⊎ (unlessFinished t (some k text next) ≡ some k text next)
-    → run step (unlessFinished t (some k text next)) u ≡ doneAt d qs → Behind text qs
+      → (t ≡ finish) ⊎ (unlessFinished t (some k text next) ≡ some k text next)
+      → run step (unlessFinished t (some k text next)) u ≡ doneAt d qs → Behind text qs
   unfolding run
   by-rest t k next u d qs ih (inl q) e = cut-done step (sym (ap (λ ps. run step ps u) (finished-none t (some k text next) q)) ∙ e)
   by-rest t k next u d qs ih (inr q) e = ih (sym (ap (λ ps. run step ps u) q) ∙ e)
@@ -314,15 +349,15 @@ module _ (l : Limits) where
   row-ends (closing b) t = closing-ends b t
 
   last-step : (x : RowStep) (t : Token) (place : ℕ) (ps qs : List Placed) (d : Kept) → Ends t x
-    → ((u : RowState) → run (rowStep l) (unlessFinished t ps) u ≡ doneAt d qs → qs ≡ [])
-    → endBy x place (unlessFinished t ps) (λ u. run (rowStep l) (unlessFinished t ps) u) ≡ doneAt d qs → qs ≡ []
+      → ((u : RowState) → run (rowStep l) (unlessFinished t ps) u ≡ doneAt d qs → qs ≡ [])
+      → endBy x place (unlessFinished t ps) (λ u. run (rowStep l) (unlessFinished t ps) u) ≡ doneAt d qs → qs ≡ []
   last-step (go u) t place ps qs d h ih e = ih u e
   last-step (done d') t place ps qs d h ih e = sym (ap (restIs (rowStep l)) e) ∙ finished-none t ps h
   last-step (wrong n) t place ps qs d h ih e = wrong-done (rowStep l) e
 
   none-left-by : (t : Token) (text : List ℕ) (k next : ℕ) (u : RowState) (d : Kept) (qs : List Placed)
-    → (run (rowStep l) (some k text next) u ≡ doneAt d qs → qs ≡ []) → (t ≡ finish) ⊎ (unlessFinished t (some k text next) ≡ some k text next)
-    → run (rowStep l) (unlessFinished t (some k text next)) u ≡ doneAt d qs → qs ≡ []
+      → (run (rowStep l) (some k text next) u ≡ doneAt d qs → qs ≡ []) → (t ≡ finish) ⊎ (unlessFinished t (some k text next) ≡ some k text next)
+      → run (rowStep l) (unlessFinished t (some k text next)) u ≡ doneAt d qs → qs ≡ []
   unfolding run
   none-left-by t text k next u d qs ih (inl q) e = cut-done (rowStep l) (sym (ap (λ ps. run (rowStep l) ps u) (finished-none t (some k text next) q)) ∙ e)
   none-left-by t text k next u d qs ih (inr q) e = ih (sym (ap (λ ps. run (rowStep l) ps u) q) ∙ e)

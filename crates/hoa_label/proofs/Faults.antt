@@ -278,6 +278,17 @@ module _ (levels a : ℕ) where
   blame (wants f fs) t = blame-wanted t f fs
   blame (has o k fs) t = blame-behind t o k fs
 
+  -- the number that a cause has
+  cause-number : (s : LabelState) (t : Token) (n : ℕ) → Cause s t n → (40 ≤ n) × (n ≤ 42)
+  cause-number s t n (syntax q) = (omega arith, omega arith)
+  cause-number s t n (aborted q) = (omega arith, omega arith)
+  cause-number s t n (unfit us r) = (omega arith, omega arith)
+  cause-number s t n (deep us r) = (omega arith, omega arith)
+
+  -- every refusal, from whatever state, has the number 40, 41 or 42
+  pub step-number : (s : LabelState) (t : Token) (n : ℕ) → stepWithin levels a s t ≡ wrong n → (40 ≤ n) × (n ≤ 42)
+  step-number s t n q = cause-number s t n (subst (Blamed s t) q (blame s t))
+
   -- ---- the faulty token
 
   -- by its cause

@@ -22,3 +22,5 @@ pub mod Unique
 pub mod Examples
 -- Carry: for a machine that follows these steps inside a label
 pub mod Carry
+-- Texts: labels inside a longer text
+pub mod Texts

@@ -1,5 +1,6 @@
 -- What stands complete is a formula of std(c) with that meaning (`sound`): for each kind, what its machine's states still want (`..Wants`, `..Behind`).
 -- Assumes nothing.
+pub mod Late
 use mathlib.Core.Bool.{Bool, true, false, cond, _&&_, _||_}
 use mathlib.Core.List.{List, [], _∷_}
 use mathlib.Core.Path.{_≡_, refl, sym, ap, subst, _∙_}

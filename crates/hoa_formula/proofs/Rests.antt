@@ -244,6 +244,14 @@ walked c s t ts f e = by (freeStep c s t) refl e
 
 -- ---- what is left
 
+-- something that the stage still wants
+abbrev pub Some : (Wants → ℕ → List Token → Type 0) → (Behind → ℕ → List Token → Type 0) → Stage → ℕ → Type 0
+Some RW RB (operand w) n = (us : List Token) × RW w n us
+Some RW RB (named b) n = (0 < n) × ((us : List Token) × RB b n us)
+Some RW RB (bracket b) n = (0 < n) × ((us : List Token) × RB b n us)
+Some RW RB (number b) n = (us : List Token) × RB b n us
+Some RW RB (after b) n = (us : List Token) × RB b n us
+
 module _ (c : ℕ) (RW : Wants → ℕ → List Token → Type 0) (RB : Behind → ℕ → List Token → Type 0)
     (f-open : (w : Wants) (n : ℕ) (ts : List Token) → RW (wantsOpen w) n ts → RW w n (left ts))
     (f-inf : (w : Wants) (n : ℕ) (ts : List Token) → n < c → RB (wantsInf w) (suc n) ts → RW w n (atom word-is.Inf n ts))
@@ -294,15 +302,7 @@ module _ (c : ℕ) (RW : Wants → ℕ → List Token → Type 0) (RB : Behind �
       front (s .atoms) (s .depth) (x .0 .depth) (x .0 .atoms) (s .stage) (x .0 .stage) (pieceOf t) t (ts ++ us) (went c s t (x .0) (x .1)) (exact t)
       (rest-on ts us (x .0) f (x .2) h)
 
-  -- something that the stage still wants
-  abbrev pub Some : Stage → ℕ → Type 0
-  Some (operand w) n = (us : List Token) × RW w n us
-  Some (named b) n = (0 < n) × ((us : List Token) × RB b n us)
-  Some (bracket b) n = (0 < n) × ((us : List Token) × RB b n us)
-  Some (number b) n = (us : List Token) × RB b n us
-  Some (after b) n = (us : List Token) × RB b n us
-
-  some-rest : (g : Stage) (n : ℕ) → Some g n → (us : List Token) × Rest g n us
+  some-rest : (g : Stage) (n : ℕ) → Some RW RB g n → (us : List Token) × Rest g n us
   some-rest (operand w) n h = h
   some-rest (named b) zero h = absurd (omega (arith, h .0))
   some-rest (named b) (suc j) h = (left (int j ∷ right (h .1 .0)), (j, h .1 .0, refl, refl, h .1 .1))
@@ -312,7 +312,7 @@ module _ (c : ℕ) (RW : Wants → ℕ → List Token → Type 0) (RB : Behind �
   some-rest (after b) n h = h
 
   -- a walk that can go on has admitted the beginning of something
-  pub begun : (ts : List Token) (s f : FormulaState) → freeWalk c s ts ≡ go f → Some (f .stage) (f .atoms) → (us : List Token) × Rest (s .stage) (s .atoms) (ts ++ us)
+  pub begun : (ts : List Token) (s f : FormulaState) → freeWalk c s ts ≡ go f → Some RW RB (f .stage) (f .atoms) → (us : List Token) × Rest (s .stage) (s .atoms) (ts ++ us)
   begun ts s f e h =
       let r = some-rest (f .stage) (f .atoms) h in
       (r .0, rest-on ts (r .0) s f e (r .1))

@@ -4,7 +4,7 @@ use mathlib.Core.Bool.{Bool, true, false, cond, _&&_, _||_}
 use mathlib.Core.List.{List, [], _∷_, _++_}
 use mathlib.Core.Path.{_≡_, refl, sym, ap, subst, _∙_}
 use mathlib.Core.Logic.{_⊎_, inl, inr}
-use Prim.Native.Nat.{ℕ, zero, suc, _+_, _-_, _%_, _≤_, _<_}
+use Prim.Native.Nat.{ℕ, zero, suc, _+_, _-_, _/_, _%_, _≤_, _<_}
 use native.Mathlib.Omega.{arith}
 use native.Mathlib.Decide.{decLt}
 use lib.Dec.{eqb}
@@ -104,3 +104,118 @@ module _ (c : ℕ) where
       let r = pairs-left j m (suc (suc n)) (omega arith) in
       let us = stropText one-pair n (r .0) in
       (both us, sound.str-row c m 0 n us refl (sound.operand {i = n} {ts = us} one-pair (r .0) refl (r .1)))
+
+  half : (n : ℕ) → n % 2 ≡ 0 → c % 2 ≡ 0 → n ≤ c → n + ((c - n) / 2 + (c - n) / 2) ≡ c
+  half n p q l = omega arith
+
+  -- what is known of the numbers, by the state
+  abbrev StreettAt : StreettWants → ℕ → Type 0
+  StreettAt StreettWants.lost n = Unit
+  StreettAt (StreettWants.fin m u) n = (n % 2 ≡ 0) × (c % 2 ≡ 0)
+  StreettAt (StreettWants.inf m v) n = (n % 2 ≡ 1) × (c % 2 ≡ 0)
+
+  abbrev StreettPast : StreettBehind → ℕ → Type 0
+  StreettPast StreettBehind.lost n = Unit
+  StreettPast (StreettBehind.fin m u) n = (n % 2 ≡ 1) × (c % 2 ≡ 0)
+  StreettPast (StreettBehind.inf m v) n = (n % 2 ≡ 0) × (c % 2 ≡ 0)
+  StreettPast (StreettBehind.pair m) n = (n % 2 ≡ 0) × (c % 2 ≡ 0)
+
+  abbrev BareAt : Bare → ℕ → Type 0
+  BareAt Bare.lost n = Unit
+  BareAt (Bare.fin x) n = (n ≡ 0) × (c ≡ 2)
+  BareAt (Bare.inf v) n = (n ≡ 1) × (c ≡ 2)
+
+  abbrev BarePast : Bare → ℕ → Type 0
+  BarePast Bare.lost n = Unit
+  BarePast (Bare.fin x) n = (n ≡ 1) × (c ≡ 2)
+  BarePast (Bare.inf v) n = (n ≡ 2) × (c ≡ 2)
+
+  no-yes : {A : Type 0} → false ≡ true → A
+  no-yes e = absurd (let z : _≡_ {A = ℕ} 0 1 = cc in omega arith)
+
+  buchi-wants : (x : Buchi) (n : ℕ) → buchiLive x ≡ true → n < c → (us : List Token) × sound.BuchiWants c x n us
+  buchi-wants Buchi.lost n e l = no-yes e
+  buchi-wants (Buchi.live d) n e l = infs-left (sound.Ended c) c ([], (refl, refl)) d n l
+
+  buchi-behind : (x : Buchi) (n : ℕ) → buchiLive x ≡ true → n ≤ c → (us : List Token) × sound.BuchiBehind c x n us
+  buchi-behind Buchi.lost n e l = no-yes e
+  buchi-behind (Buchi.live d) n e l = rows-left (sound.Ended c) c ([], (refl, refl)) d n l
+
+  rabin-wants : (x : RabinWants) (n : ℕ) → rabinWanting x ≡ true → n < c → (us : List Token) × sound.WantsRabin c x n us
+  rabin-wants RabinWants.lost n e l = no-yes e
+  rabin-wants (RabinWants.fin m b) n e l = fin-left m b n l
+  rabin-wants (RabinWants.inf m b d) n e l = infs-left (sound.PairEnd c m b) c (pair-shut m b) d n l
+
+  rabin-behind : (x : RabinBehind) (n : ℕ) → rabinLive x ≡ true → n ≤ c → (us : List Token) × sound.BehindRabin c x n us
+  rabin-behind RabinBehind.lost n e l = no-yes e
+  rabin-behind (RabinBehind.pair m b d) n e l = rows-left (sound.PairEnd c m b) c (pair-shut m b) d n l
+  rabin-behind (RabinBehind.group m) n e l = groups-left m n l
+
+  inf-shut : (m v n : ℕ) → n % 2 ≡ 0 → c % 2 ≡ 0 → n ≤ c → (us : List Token) × sound.InfEnd c m v n us
+  unfolding sound.InfEnd
+  inf-shut m zero n p q l = let r = pairs-left ((c - n) / 2) m n (half n p q l) in (right (r .0), (r .0, refl, r .1))
+  inf-shut m (suc v) n p q l = let r = inf-shut m v n p q l in (right (r .0), (r .0, refl, r .1))
+
+  inf-wanted : (m v n : ℕ) → n % 2 ≡ 1 → c % 2 ≡ 0 → n ≤ c → (us : List Token) × sound.InfWanted c m v n us
+  unfolding singleText
+  inf-wanted m v n p q l =
+      let r = inf-shut m v (suc n) (omega arith) q (omega arith) in
+      (atom word-is.Inf n (r .0), record { inf = Single.mark; us = r .0; text = refl; end = r .1 })
+
+  streett-wants : (x : StreettWants) (n : ℕ) → streettWanting x ≡ true → StreettAt x n → n < c → (us : List Token) × sound.WantsStreett c x n us
+  unfolding one-pair stropEnd
+  streett-wants StreettWants.lost n e h l = no-yes e
+  streett-wants (StreettWants.fin m u) n e h l =
+      let r = pairs-left ((c - suc (suc n)) / 2) m (suc (suc n)) (half (suc (suc n)) (omega (arith, h .0)) (h .1) (omega (arith, h .0, h .1))) in
+      let us = stropText one-pair n (r .0) in
+      (us, sound.operand {i = n} {ts = us} one-pair (r .0) refl (r .1))
+  streett-wants (StreettWants.inf m v) n e h l = inf-wanted m v n (h .0) (h .1) (omega arith)
+
+  streett-behind : (x : StreettBehind) (n : ℕ) → streettLive x ≡ true → StreettPast x n → n ≤ c → (us : List Token) × sound.BehindStreett c x n us
+  streett-behind StreettBehind.lost n e h l = no-yes e
+  streett-behind (StreettBehind.fin m u) n e h l = let r = inf-wanted m 0 n (h .0) (h .1) l in (either (r .0), sound.joins (r .0) refl (r .1))
+  streett-behind (StreettBehind.inf m v) n e h l = inf-shut m v n (h .0) (h .1) l
+  streett-behind (StreettBehind.pair m) n e h l = pairs-left ((c - n) / 2) m n (half n (h .0) (h .1) l)
+
+  bare-shut : (v n : ℕ) → n ≡ 2 → c ≡ 2 → (us : List Token) × sound.BareEnd c v n us
+  unfolding sound.BareEnd
+  bare-shut zero n e q = ([], (omega arith, refl))
+  bare-shut (suc v) n e q = let r = bare-shut v n e q in (right (r .0), (r .0, refl, r .1))
+
+  bare-inf : (v n : ℕ) → n ≡ 1 → c ≡ 2 → (us : List Token) × sound.BareInf c v n us
+  unfolding singleText
+  bare-inf v n e q =
+      let r = bare-shut v (suc n) (omega arith) q in
+      (atom word-is.Inf n (r .0), record { inf = Single.mark; us = r .0; text = refl; end = r .1 })
+
+  bare-or : (x n : ℕ) → n ≡ 1 → c ≡ 2 → (us : List Token) × sound.BareOr c x n us
+  unfolding sound.BareOr
+  bare-or zero n e q = let r = bare-inf 0 n e q in (either (r .0), (r .0, refl, r .1))
+  bare-or (suc x) n e q = let r = bare-or x n e q in (right (r .0), (r .0, refl, r .1))
+
+  bare-wants : (x : Bare) (n : ℕ) → bareLive x ≡ true → BareAt x n → (us : List Token) × sound.WantsBare c x n us
+  unfolding singleText
+  bare-wants Bare.lost n e h = no-yes e
+  bare-wants (Bare.fin x) n e h =
+      let r = bare-or x (suc n) (omega (arith, h .0)) (h .1) in
+      (atom word-is.Fin n (r .0), record { fin = Single.mark; us = r .0; text = refl; end = r .1 })
+  bare-wants (Bare.inf v) n e h = bare-inf v n (h .0) (h .1)
+
+  bare-behind : (x : Bare) (n : ℕ) → bareLive x ≡ true → BarePast x n → (us : List Token) × sound.BehindBare c x n us
+  bare-behind Bare.lost n e h = no-yes e
+  bare-behind (Bare.fin x) n e h = bare-or x n (h .0) (h .1)
+  bare-behind (Bare.inf v) n e h = bare-shut v n (h .0) (h .1)
+
+  truth-shut : (d : ℕ) → (us : List Token) × sound.TruthEnd d us
+  unfolding sound.TruthEnd
+  truth-shut zero = ([], refl)
+  truth-shut (suc d) = let r = truth-shut d in (right (r .0), (r .0, refl, r .1))
+
+  truth-wants : (x : TruthWants) (n : ℕ) → truthWanting x ≡ true → (us : List Token) × sound.WantsTruth x n us
+  unfolding truthText
+  truth-wants TruthWants.lost n e = no-yes e
+  truth-wants (TruthWants.live d) n e = let r = truth-shut d in (word word-is.True ∷ r .0, record { value = Truth.truth; us = r .0; text = refl; end = r .1 })
+
+  truth-behind : (x : TruthBehind) (n : ℕ) → truthLive x ≡ true → (us : List Token) × sound.BehindTruth x n us
+  truth-behind TruthBehind.lost n e = no-yes e
+  truth-behind (TruthBehind.is b d) n e = truth-shut d

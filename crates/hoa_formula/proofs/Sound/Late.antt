@@ -15,7 +15,7 @@ use Rattle.hoa_formula.specs.declared.machine.Piece.{Piece}
 use Rattle.hoa_formula.specs.Standard.{left, right, both, either, atom, Infs, Infop, infsEnd, infopEnd, infsText}
 use Rattle.hoa_formula.specs.Standard.{Rabin, rabinText, Single, Spair, Streett, Strop, streettText, stropText, stropEnd, spairText, singleText, Truth, truthText, Std, stdText, IsStd}
 use Rattle.hoa_formula.specs.Machines.{Buchi, RabinWants, RabinBehind, StreettWants, StreettBehind, Bare, TruthWants, TruthBehind, Wants, Behind, begin}
-use Rattle.hoa_formula.specs.Machines.{streettOpen, streettInf, streettFin, streettClose, streettAnd, streettOr, bareOpen, bareInf, bareFin, bareClose, bareOr}
+use Rattle.hoa_formula.specs.Machines.{streettOpen, streettInf, streettFin, streettClose, streettAnd, streettOr, bareOpen, bareInf, bareFin, bareClose, bareOr, truthOpen}
 use Rattle.hoa_formula.specs.Machines.{wantsOpen, wantsInf, wantsFin, wantsTruth, behindClose, behindAnd, behindOr, someWants, someBehind}
 use Rattle.hoa_formula.specs.Machines.{buchiLive, rabinWanting, rabinLive, streettWanting, streettLive, bareLive, truthWanting, truthLive}
 use Rattle.hoa_formula.specs.Formulas.{FormulaState, go, Stage, operand, named, bracket, number, after, formulaBegin}
@@ -219,3 +219,135 @@ module _ (c : ℕ) where
   truth-behind : (x : TruthBehind) (n : ℕ) → truthLive x ≡ true → (us : List Token) × sound.BehindTruth x n us
   truth-behind TruthBehind.lost n e = no-yes e
   truth-behind (TruthBehind.is b d) n e = truth-shut d
+
+  -- ---- what every token keeps
+
+  record FairWants (n : ℕ) (w : Wants) : Type 0 where
+    some : someWants w ≡ true
+    room : (n < c) ⊎ (truthWanting (w .truth) ≡ true)
+    most : n ≤ c
+    streett : StreettAt (w .streett) n
+    bare : BareAt (w .bare) n
+
+  record FairBehind (n : ℕ) (b : Behind) : Type 0 where
+    some : someBehind b ≡ true
+    most : n ≤ c
+    streett : StreettPast (b .streett) n
+    bare : BarePast (b .bare) n
+
+  abbrev Fair : ℕ → Stage → Type 0
+  Fair n (operand w) = FairWants n w
+  Fair n (named b) = (0 < n) × FairBehind n b
+  Fair n (bracket b) = (0 < n) × FairBehind n b
+  Fair n (number b) = FairBehind n b
+  Fair n (after b) = FairBehind n b
+
+  s-open : (x : StreettWants) (n : ℕ) → StreettAt x n → StreettAt (streettOpen x) n
+  s-open StreettWants.lost n h = tt
+  s-open (StreettWants.fin m u) n h = h
+  s-open (StreettWants.inf m v) n h = h
+
+  s-inf : (x : StreettWants) (n : ℕ) → StreettAt x n → StreettPast (streettInf x) (suc n)
+  s-inf StreettWants.lost n h = tt
+  s-inf (StreettWants.fin m u) n h = tt
+  s-inf (StreettWants.inf m v) n h = (omega (arith, h .0), h .1)
+
+  s-fin : (x : StreettWants) (n : ℕ) → StreettAt x n → StreettPast (streettFin x) (suc n)
+  s-fin StreettWants.lost n h = tt
+  s-fin (StreettWants.fin m zero) n h = tt
+  s-fin (StreettWants.fin zero (suc u)) n h = tt
+  s-fin (StreettWants.fin (suc m) (suc u)) n h = (omega (arith, h .0), h .1)
+  s-fin (StreettWants.inf m v) n h = tt
+
+  s-close : (x : StreettBehind) (n : ℕ) → StreettPast x n → StreettPast (streettClose x) n
+  s-close StreettBehind.lost n h = tt
+  s-close (StreettBehind.fin m zero) n h = tt
+  s-close (StreettBehind.fin zero (suc u)) n h = tt
+  s-close (StreettBehind.fin (suc m) (suc u)) n h = h
+  s-close (StreettBehind.inf m zero) n h = h
+  s-close (StreettBehind.inf m (suc v)) n h = h
+  s-close (StreettBehind.pair zero) n h = tt
+  s-close (StreettBehind.pair (suc m)) n h = h
+
+  s-and : (x : StreettBehind) (n : ℕ) → StreettPast x n → StreettAt (streettAnd x) n
+  s-and StreettBehind.lost n h = tt
+  s-and (StreettBehind.fin m u) n h = tt
+  s-and (StreettBehind.inf m v) n h = tt
+  s-and (StreettBehind.pair m) n h = h
+
+  s-or : (x : StreettBehind) (n : ℕ) → StreettPast x n → StreettAt (streettOr x) n
+  s-or StreettBehind.lost n h = tt
+  s-or (StreettBehind.fin m u) n h = h
+  s-or (StreettBehind.inf m v) n h = tt
+  s-or (StreettBehind.pair m) n h = tt
+
+  b-open : (x : Bare) (n : ℕ) → BareAt x n → BareAt (bareOpen x) n
+  b-open Bare.lost n h = tt
+  b-open (Bare.fin x) n h = h
+  b-open (Bare.inf v) n h = h
+
+  b-inf : (x : Bare) (n : ℕ) → BareAt x n → BarePast (bareInf x) (suc n)
+  b-inf Bare.lost n h = tt
+  b-inf (Bare.fin x) n h = tt
+  b-inf (Bare.inf v) n h = (omega (arith, h .0), h .1)
+
+  b-fin : (x : Bare) (n : ℕ) → BareAt x n → BarePast (bareFin x) (suc n)
+  b-fin Bare.lost n h = tt
+  b-fin (Bare.fin x) n h = (omega (arith, h .0), h .1)
+  b-fin (Bare.inf v) n h = tt
+
+  b-close : (x : Bare) (n : ℕ) → BarePast x n → BarePast (bareClose x) n
+  b-close Bare.lost n h = tt
+  b-close (Bare.fin zero) n h = tt
+  b-close (Bare.fin (suc x)) n h = h
+  b-close (Bare.inf zero) n h = tt
+  b-close (Bare.inf (suc v)) n h = h
+
+  b-or : (x : Bare) (n : ℕ) → BarePast x n → BareAt (bareOr x) n
+  b-or Bare.lost n h = tt
+  b-or (Bare.fin zero) n h = h
+  b-or (Bare.fin (suc x)) n h = tt
+  b-or (Bare.inf v) n h = tt
+
+  t-open : (x : TruthWants) → truthWanting x ≡ true → truthWanting (truthOpen x) ≡ true
+  t-open TruthWants.lost e = e
+  t-open (TruthWants.live d) e = refl
+
+  room-open : (n : ℕ) (w : Wants) → (n < c) ⊎ (truthWanting (w .truth) ≡ true) → (n < c) ⊎ (truthWanting (truthOpen (w .truth)) ≡ true)
+  room-open n w (inl l) = inl l
+  room-open n w (inr e) = inr (t-open (w .truth) e)
+
+  fair-went : (n d d' n' : ℕ) (g g' : Stage) (p : Piece) → Went c n d g p d' n' g' → Fair n g → Fair n' g'
+  fair-went n d d' n' g g' p (opens {w = w} a) h =
+      record { some = a; room = room-open n w (h .room); most = h .most; streett = s-open (w .streett) n (h .streett); bare = b-open (w .bare) n (h .bare) }
+  fair-went n d d' n' g g' p (infs {w = w} l a) h =
+      (omega arith, record { some = a; most = l; streett = s-inf (w .streett) n (h .streett); bare = b-inf (w .bare) n (h .bare) })
+  fair-went n d d' n' g g' p (fins {w = w} l a) h =
+      (omega arith, record { some = a; most = l; streett = s-fin (w .streett) n (h .streett); bare = b-fin (w .bare) n (h .bare) })
+  fair-went n d d' n' g g' p (truths {w = w} t a) h = record { some = a; most = h .most; streett = tt; bare = tt }
+  fair-went n d d' n' g g' p brackets h = h
+  fair-went n d d' n' g g' p (numbers k e) h = h .1
+  fair-went n d d' n' g g' p shuts h = h
+  fair-went n d d' n' g g' p (closed {b = b} a) h =
+      record { some = a; most = h .most; streett = s-close (b .streett) n (h .streett); bare = b-close (b .bare) n (h .bare) }
+  fair-went n d d' n' g g' p (ands {b = b} l a) h = record { some = a; room = inl l; most = h .most; streett = s-and (b .streett) n (h .streett); bare = tt }
+  fair-went n d d' n' g g' p (ors {b = b} l a) h =
+      record { some = a; room = inl l; most = h .most; streett = s-or (b .streett) n (h .streett); bare = b-or (b .bare) n (h .bare) }
+
+  fair-begins : FairWants 0 (begin c)
+  fair-begins =
+      record { some = refl; room = rooms (eqb c 0) refl; most = omega arith; streett = evens (eqb (c % 2) 0) refl; bare = twos (eqb c 2) refl }
+    where
+      rooms : (t : Bool) → eqb c 0 ≡ t → (0 < c) ⊎ (truthWanting (cond t (TruthWants.live 0) TruthWants.lost) ≡ true)
+      rooms true e = inr refl
+      rooms false e = let h = eqb-false c 0 e in inl (positive c h)
+        where
+          positive : (k : ℕ) → (k ≡ 0 → ⊥) → 0 < k
+          positive zero h = absurd (h refl)
+          positive (suc k) h = omega arith
+      evens : (t : Bool) → eqb (c % 2) 0 ≡ t → StreettAt (cond t (StreettWants.fin 0 0) StreettWants.lost) 0
+      evens true e = (refl, eqb-true (c % 2) 0 e)
+      evens false e = tt
+      twos : (t : Bool) → eqb c 2 ≡ t → BareAt (cond t (Bare.fin 0) Bare.lost) 0
+      twos true e = (refl, eqb-true c 2 e)
+      twos false e = tt

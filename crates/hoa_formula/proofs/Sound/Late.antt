@@ -351,3 +351,145 @@ module _ (c : ℕ) where
       twos : (t : Bool) → eqb c 2 ≡ t → BareAt (cond t (Bare.fin 0) Bare.lost) 0
       twos true e = (refl, eqb-true c 2 e)
       twos false e = tt
+
+  -- ---- by the machine that goes on
+
+  data Machine : Type 0 where
+    buchi : Machine
+    rabin : Machine
+    streett : Machine
+    bare : Machine
+    truth : Machine
+
+  abbrev WantsOf : Machine → Wants → ℕ → List Token → Type 0
+  WantsOf buchi w = sound.BuchiWants c (w .buchi)
+  WantsOf rabin w = sound.WantsRabin c (w .rabin)
+  WantsOf streett w = sound.WantsStreett c (w .streett)
+  WantsOf bare w = sound.WantsBare c (w .bare)
+  WantsOf truth w = sound.WantsTruth (w .truth)
+
+  abbrev BehindOf : Machine → Behind → ℕ → List Token → Type 0
+  BehindOf buchi b = sound.BuchiBehind c (b .buchi)
+  BehindOf rabin b = sound.BehindRabin c (b .rabin)
+  BehindOf streett b = sound.BehindStreett c (b .streett)
+  BehindOf bare b = sound.BehindBare c (b .bare)
+  BehindOf truth b = sound.BehindTruth (b .truth)
+
+  or-cases : (a b : Bool) → a || b ≡ true → (a ≡ true) ⊎ (b ≡ true)
+  or-cases true b e = inl refl
+  or-cases false b e = inr e
+
+  pick-wants : (n : ℕ) (w : Wants) → FairWants n w → (k : Machine) × ((us : List Token) × WantsOf k w n us)
+  pick-wants n w h = by (h .room)
+    where
+      five : n < c → bareLive (w .bare) ≡ true ⊎ (truthWanting (w .truth) ≡ true) → (k : Machine) × ((us : List Token) × WantsOf k w n us)
+      five l (inl e) = (bare, bare-wants (w .bare) n e (h .bare))
+      five l (inr e) = (truth, truth-wants (w .truth) n e)
+      four : n < c → streettWanting (w .streett) ≡ true ⊎ (bareLive (w .bare) || truthWanting (w .truth) ≡ true) → (k : Machine) × ((us : List Token) × WantsOf k w n us)
+      four l (inl e) = (streett, streett-wants (w .streett) n e (h .streett) l)
+      four l (inr e) = five l (or-cases (bareLive (w .bare)) (truthWanting (w .truth)) e)
+      three : n < c → rabinWanting (w .rabin) ≡ true ⊎ (streettWanting (w .streett) || (bareLive (w .bare) || truthWanting (w .truth)) ≡ true)
+          → (k : Machine) × ((us : List Token) × WantsOf k w n us)
+      three l (inl e) = (rabin, rabin-wants (w .rabin) n e l)
+      three l (inr e) = four l (or-cases (streettWanting (w .streett)) (bareLive (w .bare) || truthWanting (w .truth)) e)
+      two : n < c → buchiLive (w .buchi) ≡ true ⊎ (rabinWanting (w .rabin) || (streettWanting (w .streett) || (bareLive (w .bare) || truthWanting (w .truth))) ≡ true)
+          → (k : Machine) × ((us : List Token) × WantsOf k w n us)
+      two l (inl e) = (buchi, buchi-wants (w .buchi) n e l)
+      two l (inr e) = three l (or-cases (rabinWanting (w .rabin)) (streettWanting (w .streett) || (bareLive (w .bare) || truthWanting (w .truth))) e)
+      by : (n < c) ⊎ (truthWanting (w .truth) ≡ true) → (k : Machine) × ((us : List Token) × WantsOf k w n us)
+      by (inr e) = (truth, truth-wants (w .truth) n e)
+      by (inl l) =
+          two l (or-cases (buchiLive (w .buchi)) (rabinWanting (w .rabin) || (streettWanting (w .streett) || (bareLive (w .bare) || truthWanting (w .truth)))) (h .some))
+
+  pick-behind : (n : ℕ) (b : Behind) → FairBehind n b → (k : Machine) × ((us : List Token) × BehindOf k b n us)
+  pick-behind n b h = two (or-cases (buchiLive (b .buchi)) (rabinLive (b .rabin) || (streettLive (b .streett) || (bareLive (b .bare) || truthLive (b .truth)))) (h .some))
+    where
+      five : bareLive (b .bare) ≡ true ⊎ (truthLive (b .truth) ≡ true) → (k : Machine) × ((us : List Token) × BehindOf k b n us)
+      five (inl e) = (bare, bare-behind (b .bare) n e (h .bare))
+      five (inr e) = (truth, truth-behind (b .truth) n e)
+      four : streettLive (b .streett) ≡ true ⊎ (bareLive (b .bare) || truthLive (b .truth) ≡ true) → (k : Machine) × ((us : List Token) × BehindOf k b n us)
+      four (inl e) = (streett, streett-behind (b .streett) n e (h .streett) (h .most))
+      four (inr e) = five (or-cases (bareLive (b .bare)) (truthLive (b .truth)) e)
+      three : rabinLive (b .rabin) ≡ true ⊎ (streettLive (b .streett) || (bareLive (b .bare) || truthLive (b .truth)) ≡ true) → (k : Machine) × ((us : List Token) × BehindOf k b n us)
+      three (inl e) = (rabin, rabin-behind (b .rabin) n e (h .most))
+      three (inr e) = four (or-cases (streettLive (b .streett)) (bareLive (b .bare) || truthLive (b .truth)) e)
+      two : buchiLive (b .buchi) ≡ true ⊎ (rabinLive (b .rabin) || (streettLive (b .streett) || (bareLive (b .bare) || truthLive (b .truth))) ≡ true)
+          → (k : Machine) × ((us : List Token) × BehindOf k b n us)
+      two (inl e) = (buchi, buchi-behind (b .buchi) n e (h .most))
+      two (inr e) = three (or-cases (rabinLive (b .rabin)) (streettLive (b .streett) || (bareLive (b .bare) || truthLive (b .truth))) e)
+
+  pick : (n : ℕ) (g : Stage) → Fair n g → (k : Machine) × Some (WantsOf k) (BehindOf k) g n
+  pick n (operand w) h = pick-wants n w h
+  pick n (named b) h = let r = pick-behind n b (h .1) in (r .0, (h .0, r .1))
+  pick n (bracket b) h = let r = pick-behind n b (h .1) in (r .0, (h .0, r .1))
+  pick n (number b) h = pick-behind n b h
+  pick n (after b) h = pick-behind n b h
+
+  back : (k : Machine) (ts : List Token) (f : FormulaState) → freeWalk c (formulaBegin c) ts ≡ go f → Some (WantsOf k) (BehindOf k) (f .stage) (f .atoms)
+      → (us : List Token) × WantsOf k (begin c) 0 (ts ++ us)
+  unfolding formulaBegin
+  back buchi ts f e h =
+      begun c (WantsOf buchi) (BehindOf buchi) (λ w. sound.buchi-open c (w .buchi)) (λ w n ts l. sound.buchi-inf c (w .buchi) n ts) (λ w n ts l h. absurd h)
+      (λ t w n ts h. absurd h) (λ b. sound.buchi-close c (b .buchi)) (λ b n ts l. sound.buchi-and c (b .buchi) n ts) (λ b n ts l h. absurd h) ts (formulaBegin c) f e h
+  back rabin ts f e h =
+      begun c (WantsOf rabin) (BehindOf rabin) (λ w. sound.rabin-open c (w .rabin)) (λ w n ts l. sound.rabin-inf c (w .rabin) n ts)
+      (λ w n ts l. sound.rabin-fin c (w .rabin) n ts) (λ t w n ts h. absurd h) (λ b. sound.rabin-close c (b .rabin)) (λ b n ts l. sound.rabin-and c (b .rabin) n ts)
+      (λ b n ts l. sound.rabin-or c (b .rabin) n ts) ts (formulaBegin c) f e h
+  back streett ts f e h =
+      begun c (WantsOf streett) (BehindOf streett) (λ w. sound.streett-open c (w .streett)) (λ w n ts l. sound.streett-inf c (w .streett) n ts)
+      (λ w n ts l. sound.streett-fin c (w .streett) n ts) (λ t w n ts h. absurd h) (λ b. sound.streett-close c (b .streett))
+      (λ b n ts l. sound.streett-and c (b .streett) n ts) (λ b n ts l. sound.streett-or c (b .streett) n ts) ts (formulaBegin c) f e h
+  back bare ts f e h =
+      begun c (WantsOf bare) (BehindOf bare) (λ w. sound.bare-open c (w .bare)) (λ w n ts l. sound.bare-inf c (w .bare) n ts) (λ w n ts l. sound.bare-fin c (w .bare) n ts)
+      (λ t w n ts h. absurd h) (λ b. sound.bare-close c (b .bare)) (λ b n ts l h. absurd h) (λ b n ts l. sound.bare-or c (b .bare) n ts) ts (formulaBegin c) f e h
+  back truth ts f e h =
+      begun c (WantsOf truth) (BehindOf truth) (λ w. sound.truth-open (w .truth)) (λ w n ts l h. absurd h) (λ w n ts l h. absurd h) (λ t w. sound.truth-is t (w .truth))
+      (λ b. sound.truth-close (b .truth)) (λ b n ts l h. absurd h) (λ b n ts l h. absurd h) ts (formulaBegin c) f e h
+
+  -- what is wanted at the beginning is a formula
+  abbrev Formula : List Token → Type 0
+  Formula xs = (x : Std) × IsStd c x × (stdText x [] ≡ xs)
+
+  of-groups : (xs : List Token) → sound.Groups (sound.RabinEnd c 0) 0 (either xs) → Formula xs
+  unfolding sound.RabinEnd stdText
+  of-groups xs (sound.Groups.stops e) = absurd (let z : _≡_ {A = ℕ} 0 1 = cc in omega arith)
+  of-groups xs (sound.Groups.goes x us e d) = (Std.rabin x, d .0, (let q : xs ≡ rabinText x 0 us = cc in sym (q ∙ ap (rabinText x 0) (d .1))))
+
+  of-pairs : (xs : List Token) → c % 2 ≡ 0 → sound.Pairs (sound.StreettEnd c 0) 0 (both xs) → Formula xs
+  unfolding sound.StreettEnd stdText
+  of-pairs xs v (sound.Pairs.stops e) = absurd (let z : _≡_ {A = ℕ} 0 1 = cc in omega arith)
+  of-pairs xs v (sound.Pairs.goes x us e d) = (Std.streett x, (d .0, v), (let q : xs ≡ streettText x 0 us = cc in sym (q ∙ ap (streettText x 0) (d .1))))
+
+  formula : (k : Machine) (xs : List Token) → WantsOf k (begin c) 0 xs → Formula xs
+  unfolding sound.InfsEnd sound.BareOr sound.BareEnd sound.TruthEnd stdText spairText
+  formula buchi xs h = (Std.infs (h .row), h .end .0, sym (h .text ∙ ap (infsText (h .row) 0) (h .end .1)))
+  formula rabin xs h = of-groups xs (sound.fin-row c 0 0 xs h)
+  formula streett xs h = even (eqb (c % 2) 0) refl h
+    where
+      even : (t : Bool) → eqb (c % 2) 0 ≡ t → sound.WantsStreett c (cond t (StreettWants.fin 0 0) StreettWants.lost) 0 xs → Formula xs
+      even true q r = of-pairs xs (eqb-true (c % 2) 0 q) (sound.str-row c 0 0 0 xs refl r)
+      even false q r = absurd r
+  formula bare xs h = two (eqb c 2) refl h
+    where
+      two : (t : Bool) → eqb c 2 ≡ t → sound.WantsBare c (cond t (Bare.fin 0) Bare.lost) 0 xs → Formula xs
+      two true q r =
+          let i = r .end .2 in
+          (Std.spair (record { fin = r .fin; inf = i .inf }), eqb-true c 2 q, sym (rw (r .text, r .end .1, i .text, i .end .1)))
+      two false q r = absurd r
+  formula truth xs h = none (eqb c 0) refl h
+    where
+      none : (t : Bool) → eqb c 0 ≡ t → sound.WantsTruth (cond t (TruthWants.live 0) TruthWants.lost) 0 xs → Formula xs
+      none true q r = (Std.truth (r .value), eqb-true c 0 q, sym (r .text ∙ ap (truthText (r .value)) (r .end)))
+      none false q r = absurd r
+
+  fair-begin : Fair (formulaBegin c .atoms) (formulaBegin c .stage)
+  unfolding formulaBegin
+  fair-begin = fair-begins
+
+  -- what is admitted is the beginning of a formula of std(c): 41 never falls late
+  pub never-late : (ts : List Token) (f : FormulaState) → freeWalk c (formulaBegin c) ts ≡ go f → Begins c ts
+  never-late ts f e =
+      let k = pick (f .atoms) (f .stage) (forward c Fair fair-went ts (formulaBegin c) f e fair-begin) in
+      let r = back (k .0) ts f e (k .1) in
+      let x = formula (k .0) (ts ++ r .0) (r .1) in
+      record { formula = x .0; rest = r .0; standard = x .1; text = x .2 }

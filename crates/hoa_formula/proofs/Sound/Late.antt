@@ -13,7 +13,8 @@ use Rattle.hoa_tokens.specs.declared.Word.the-variants as word-is
 use Rattle.hoa_tokens.specs.Token.{Token, word}
 use Rattle.hoa_formula.specs.declared.machine.Piece.{Piece}
 use Rattle.hoa_formula.specs.Standard.{left, right, both, either, atom, Infs, Infop, infsEnd, infopEnd, infsText}
-use Rattle.hoa_formula.specs.Standard.{Rabin, rabinText, Single, Spair, Streett, Strop, streettText, stropText, stropEnd, spairText, singleText, Truth, truthText, Std, stdText, IsStd}
+use Rattle.hoa_formula.specs.Standard.{Rabin, rabinText, Single, Spair, Streett, Strop, streettText, stropText, stropEnd, spairText, singleText, Truth, truthText, Std}
+use Rattle.hoa_formula.specs.Standard.{stdText, IsStd}
 use Rattle.hoa_formula.specs.Machines.{Buchi, RabinWants, RabinBehind, StreettWants, StreettBehind, Bare, TruthWants, TruthBehind, Wants, Behind, begin}
 use Rattle.hoa_formula.specs.Machines.{streettOpen, streettInf, streettFin, streettClose, streettAnd, streettOr, bareOpen, bareInf, bareFin, bareClose, bareOr, truthOpen}
 use Rattle.hoa_formula.specs.Machines.{wantsOpen, wantsInf, wantsFin, wantsTruth, behindClose, behindAnd, behindOr, someWants, someBehind}
@@ -345,9 +346,11 @@ module _ (c : ℕ) where
           positive : (k : ℕ) → (k ≡ 0 → ⊥) → 0 < k
           positive zero h = absurd (h refl)
           positive (suc k) h = omega arith
+
       evens : (t : Bool) → eqb (c % 2) 0 ≡ t → StreettAt (cond t (StreettWants.fin 0 0) StreettWants.lost) 0
       evens true e = (refl, eqb-true (c % 2) 0 e)
       evens false e = tt
+
       twos : (t : Bool) → eqb c 2 ≡ t → BareAt (cond t (Bare.fin 0) Bare.lost) 0
       twos true e = (refl, eqb-true c 2 e)
       twos false e = tt
@@ -385,17 +388,21 @@ module _ (c : ℕ) where
       five : n < c → bareLive (w .bare) ≡ true ⊎ (truthWanting (w .truth) ≡ true) → (k : Machine) × ((us : List Token) × WantsOf k w n us)
       five l (inl e) = (bare, bare-wants (w .bare) n e (h .bare))
       five l (inr e) = (truth, truth-wants (w .truth) n e)
+
       four : n < c → streettWanting (w .streett) ≡ true ⊎ (bareLive (w .bare) || truthWanting (w .truth) ≡ true) → (k : Machine) × ((us : List Token) × WantsOf k w n us)
       four l (inl e) = (streett, streett-wants (w .streett) n e (h .streett) l)
       four l (inr e) = five l (or-cases (bareLive (w .bare)) (truthWanting (w .truth)) e)
+
       three : n < c → rabinWanting (w .rabin) ≡ true ⊎ (streettWanting (w .streett) || (bareLive (w .bare) || truthWanting (w .truth)) ≡ true)
           → (k : Machine) × ((us : List Token) × WantsOf k w n us)
       three l (inl e) = (rabin, rabin-wants (w .rabin) n e l)
       three l (inr e) = four l (or-cases (streettWanting (w .streett)) (bareLive (w .bare) || truthWanting (w .truth)) e)
+
       two : n < c → buchiLive (w .buchi) ≡ true ⊎ (rabinWanting (w .rabin) || (streettWanting (w .streett) || (bareLive (w .bare) || truthWanting (w .truth))) ≡ true)
           → (k : Machine) × ((us : List Token) × WantsOf k w n us)
       two l (inl e) = (buchi, buchi-wants (w .buchi) n e l)
       two l (inr e) = three l (or-cases (rabinWanting (w .rabin)) (streettWanting (w .streett) || (bareLive (w .bare) || truthWanting (w .truth))) e)
+
       by : (n < c) ⊎ (truthWanting (w .truth) ≡ true) → (k : Machine) × ((us : List Token) × WantsOf k w n us)
       by (inr e) = (truth, truth-wants (w .truth) n e)
       by (inl l) =
@@ -407,12 +414,16 @@ module _ (c : ℕ) where
       five : bareLive (b .bare) ≡ true ⊎ (truthLive (b .truth) ≡ true) → (k : Machine) × ((us : List Token) × BehindOf k b n us)
       five (inl e) = (bare, bare-behind (b .bare) n e (h .bare))
       five (inr e) = (truth, truth-behind (b .truth) n e)
+
       four : streettLive (b .streett) ≡ true ⊎ (bareLive (b .bare) || truthLive (b .truth) ≡ true) → (k : Machine) × ((us : List Token) × BehindOf k b n us)
       four (inl e) = (streett, streett-behind (b .streett) n e (h .streett) (h .most))
       four (inr e) = five (or-cases (bareLive (b .bare)) (truthLive (b .truth)) e)
-      three : rabinLive (b .rabin) ≡ true ⊎ (streettLive (b .streett) || (bareLive (b .bare) || truthLive (b .truth)) ≡ true) → (k : Machine) × ((us : List Token) × BehindOf k b n us)
+
+      three : rabinLive (b .rabin) ≡ true ⊎ (streettLive (b .streett) || (bareLive (b .bare) || truthLive (b .truth)) ≡ true)
+          → (k : Machine) × ((us : List Token) × BehindOf k b n us)
       three (inl e) = (rabin, rabin-behind (b .rabin) n e (h .most))
       three (inr e) = four (or-cases (streettLive (b .streett)) (bareLive (b .bare) || truthLive (b .truth)) e)
+
       two : buchiLive (b .buchi) ≡ true ⊎ (rabinLive (b .rabin) || (streettLive (b .streett) || (bareLive (b .bare) || truthLive (b .truth))) ≡ true)
           → (k : Machine) × ((us : List Token) × BehindOf k b n us)
       two (inl e) = (buchi, buchi-behind (b .buchi) n e (h .most))

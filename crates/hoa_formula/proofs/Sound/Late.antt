@@ -16,12 +16,13 @@ use Rattle.hoa_formula.specs.Standard.{left, right, both, either, atom, 
 use Rattle.hoa_formula.specs.Standard.{Rabin, rabinText, Single, Spair, Streett, Strop, streettText, stropText, stropEnd, spairText, singleText, Truth, truthText, Std}
 use Rattle.hoa_formula.specs.Standard.{stdText, IsStd}
 use Rattle.hoa_formula.specs.Machines.{Buchi, RabinWants, RabinBehind, StreettWants, StreettBehind, Bare, TruthWants, TruthBehind, Wants, Behind, begin}
-use Rattle.hoa_formula.specs.Machines.{streettOpen, streettInf, streettFin, streettClose, streettAnd, streettOr, bareOpen, bareInf, bareFin, bareClose, bareOr, truthOpen}
+use Rattle.hoa_formula.specs.Machines.{streettOpen, streettInf, streettFin, streettClose, streettAnd, streettOr, bareOpen, bareInf, bareFin, bareClose, bareOr, truthOpen, truthIs, truthClose}
+use Rattle.hoa_formula.specs.Machines.{buchiOpen, buchiClose, rabinOpen, rabinInf, rabinFin, rabinClose, rabinAnd, rabinOr}
 use Rattle.hoa_formula.specs.Machines.{wantsOpen, wantsInf, wantsFin, wantsTruth, behindClose, behindAnd, behindOr, someWants, someBehind}
 use Rattle.hoa_formula.specs.Machines.{buchiLive, rabinWanting, rabinLive, streettWanting, streettLive, bareLive, truthWanting, truthLive}
-use Rattle.hoa_formula.specs.Formulas.{FormulaState, go, Stage, operand, named, bracket, number, after, formulaBegin}
+use Rattle.hoa_formula.specs.Formulas.{FormulaState, go, Stage, operand, named, bracket, number, after, pieceOf, formulaBegin}
 use Rattle.hoa_formula.specs.Walking.{freeWalk, Begins}
-use Rattle.hoa_formula.proofs.Rests.{Went, opens, infs, fins, truths, brackets, numbers, shuts, closed, ands, ors, begun, forward, Some}
+use Rattle.hoa_formula.proofs.Rests.{Went, opens, infs, fins, truths, brackets, numbers, shuts, closed, ands, ors, begun, forward, Some, went, walked, go-is}
 use Rattle.hoa_formula.proofs.Sound as sound
 
 -- ---- each state completed
@@ -504,3 +505,213 @@ module _ (c : ℕ) where
       let r = back (k .0) ts f e (k .1) in
       let x = formula (k .0) (ts ++ r .0) (r .1) in
       record { formula = x .0; rest = r .0; standard = x .1; text = x .2 }
+
+  -- ---- "fewer than c atoms"
+
+  -- the counts of brackets are the open brackets
+  abbrev BuchiDeep : Buchi → ℕ → Type 0
+  BuchiDeep Buchi.lost d = Unit
+  BuchiDeep (Buchi.live e) d = e ≡ d
+
+  abbrev RabinDeep : RabinWants → ℕ → Type 0
+  RabinDeep RabinWants.lost d = Unit
+  RabinDeep (RabinWants.fin m b) d = m ≡ d
+  RabinDeep (RabinWants.inf m b i) d = m + i ≡ d
+
+  abbrev PairDeep : RabinBehind → ℕ → Type 0
+  PairDeep RabinBehind.lost d = Unit
+  PairDeep (RabinBehind.pair m b i) d = m + i ≡ d
+  PairDeep (RabinBehind.group m) d = m ≡ d
+
+  abbrev StreettDeep : StreettWants → ℕ → Type 0
+  StreettDeep StreettWants.lost d = Unit
+  StreettDeep (StreettWants.fin m u) d = m ≡ d
+  StreettDeep (StreettWants.inf m v) d = suc (m + v) ≡ d
+
+  abbrev StropDeep : StreettBehind → ℕ → Type 0
+  StropDeep StreettBehind.lost d = Unit
+  StropDeep (StreettBehind.fin m u) d = suc m ≡ d
+  StropDeep (StreettBehind.inf m v) d = suc (m + v) ≡ d
+  StropDeep (StreettBehind.pair m) d = m ≡ d
+
+  abbrev BareDeep : Bare → ℕ → Type 0
+  BareDeep Bare.lost d = Unit
+  BareDeep (Bare.fin x) d = x ≡ d
+  BareDeep (Bare.inf v) d = v ≡ d
+
+  abbrev TruthDeep : TruthWants → ℕ → Type 0
+  TruthDeep TruthWants.lost d = Unit
+  TruthDeep (TruthWants.live e) d = e ≡ d
+
+  abbrev ValueDeep : TruthBehind → ℕ → Type 0
+  ValueDeep TruthBehind.lost d = Unit
+  ValueDeep (TruthBehind.is b e) d = e ≡ d
+
+  record DeepWants (d : ℕ) (w : Wants) : Type 0 where
+    buchi : BuchiDeep (w .buchi) d
+    rabin : RabinDeep (w .rabin) d
+    streett : StreettDeep (w .streett) d
+    bare : BareDeep (w .bare) d
+    truth : TruthDeep (w .truth) d
+
+  record DeepBehind (d : ℕ) (b : Behind) : Type 0 where
+    buchi : BuchiDeep (b .buchi) d
+    rabin : PairDeep (b .rabin) d
+    streett : StropDeep (b .streett) d
+    bare : BareDeep (b .bare) d
+    truth : ValueDeep (b .truth) d
+
+  abbrev Deep : ℕ → Stage → Type 0
+  Deep d (operand w) = DeepWants d w
+  Deep d (named b) = DeepBehind d b
+  Deep d (bracket b) = DeepBehind d b
+  Deep d (number b) = DeepBehind d b
+  Deep d (after b) = DeepBehind d b
+
+  db-open : (x : Buchi) (d : ℕ) → BuchiDeep x d → BuchiDeep (buchiOpen x) (suc d)
+  db-open Buchi.lost d h = tt
+  db-open (Buchi.live e) d h = ap suc h
+
+  dr-open : (x : RabinWants) (d : ℕ) → RabinDeep x d → RabinDeep (rabinOpen x) (suc d)
+  dr-open RabinWants.lost d h = tt
+  dr-open (RabinWants.fin m b) d h = ap suc h
+  dr-open (RabinWants.inf m b i) d h = omega arith
+
+  ds-open : (x : StreettWants) (d : ℕ) → StreettDeep x d → StreettDeep (streettOpen x) (suc d)
+  ds-open StreettWants.lost d h = tt
+  ds-open (StreettWants.fin m u) d h = ap suc h
+  ds-open (StreettWants.inf m v) d h = omega arith
+
+  da-open : (x : Bare) (d : ℕ) → BareDeep x d → BareDeep (bareOpen x) (suc d)
+  da-open Bare.lost d h = tt
+  da-open (Bare.fin x) d h = ap suc h
+  da-open (Bare.inf v) d h = ap suc h
+
+  dt-open : (x : TruthWants) (d : ℕ) → TruthDeep x d → TruthDeep (truthOpen x) (suc d)
+  dt-open TruthWants.lost d h = tt
+  dt-open (TruthWants.live e) d h = ap suc h
+
+  dr-inf : (x : RabinWants) (d : ℕ) → RabinDeep x d → PairDeep (rabinInf x) d
+  dr-inf RabinWants.lost d h = tt
+  dr-inf (RabinWants.fin m b) d h = tt
+  dr-inf (RabinWants.inf m b i) d h = h
+
+  dr-fin : (x : RabinWants) (d : ℕ) → RabinDeep x d → PairDeep (rabinFin x) d
+  dr-fin RabinWants.lost d h = tt
+  dr-fin (RabinWants.fin m b) d h = omega arith
+  dr-fin (RabinWants.inf m b i) d h = tt
+
+  ds-inf : (x : StreettWants) (d : ℕ) → StreettDeep x d → StropDeep (streettInf x) d
+  ds-inf StreettWants.lost d h = tt
+  ds-inf (StreettWants.fin m u) d h = tt
+  ds-inf (StreettWants.inf m v) d h = h
+
+  ds-fin : (x : StreettWants) (d : ℕ) → StreettDeep x d → StropDeep (streettFin x) d
+  ds-fin StreettWants.lost d h = tt
+  ds-fin (StreettWants.fin m zero) d h = tt
+  ds-fin (StreettWants.fin zero (suc u)) d h = tt
+  ds-fin (StreettWants.fin (suc m) (suc u)) d h = h
+  ds-fin (StreettWants.inf m v) d h = tt
+
+  da-inf : (x : Bare) (d : ℕ) → BareDeep x d → BareDeep (bareInf x) d
+  da-inf Bare.lost d h = tt
+  da-inf (Bare.fin x) d h = tt
+  da-inf (Bare.inf v) d h = h
+
+  da-fin : (x : Bare) (d : ℕ) → BareDeep x d → BareDeep (bareFin x) d
+  da-fin Bare.lost d h = tt
+  da-fin (Bare.fin x) d h = h
+  da-fin (Bare.inf v) d h = tt
+
+  dt-is : (t : Bool) (x : TruthWants) (d : ℕ) → TruthDeep x d → ValueDeep (truthIs t x) d
+  dt-is t TruthWants.lost d h = tt
+  dt-is t (TruthWants.live e) d h = h
+
+  db-close : (x : Buchi) (d : ℕ) → BuchiDeep x (suc d) → BuchiDeep (buchiClose x) d
+  db-close Buchi.lost d h = tt
+  db-close (Buchi.live zero) d h = tt
+  db-close (Buchi.live (suc e)) d h = omega arith
+
+  dr-close : (x : RabinBehind) (d : ℕ) → PairDeep x (suc d) → PairDeep (rabinClose x) d
+  dr-close RabinBehind.lost d h = tt
+  dr-close (RabinBehind.pair m b (suc i)) d h = omega arith
+  dr-close (RabinBehind.pair zero b zero) d h = tt
+  dr-close (RabinBehind.pair (suc m) zero zero) d h = omega arith
+  dr-close (RabinBehind.pair (suc m) (suc b) zero) d h = omega arith
+  dr-close (RabinBehind.group zero) d h = tt
+  dr-close (RabinBehind.group (suc m)) d h = omega arith
+
+  ds-close : (x : StreettBehind) (d : ℕ) → StropDeep x (suc d) → StropDeep (streettClose x) d
+  ds-close StreettBehind.lost d h = tt
+  ds-close (StreettBehind.fin m zero) d h = tt
+  ds-close (StreettBehind.fin zero (suc u)) d h = tt
+  ds-close (StreettBehind.fin (suc m) (suc u)) d h = omega arith
+  ds-close (StreettBehind.inf m zero) d h = omega arith
+  ds-close (StreettBehind.inf m (suc v)) d h = omega arith
+  ds-close (StreettBehind.pair zero) d h = tt
+  ds-close (StreettBehind.pair (suc m)) d h = omega arith
+
+  da-close : (x : Bare) (d : ℕ) → BareDeep x (suc d) → BareDeep (bareClose x) d
+  da-close Bare.lost d h = tt
+  da-close (Bare.fin zero) d h = tt
+  da-close (Bare.fin (suc x)) d h = omega arith
+  da-close (Bare.inf zero) d h = tt
+  da-close (Bare.inf (suc v)) d h = omega arith
+
+  dt-close : (x : TruthBehind) (d : ℕ) → ValueDeep x (suc d) → ValueDeep (truthClose x) d
+  dt-close TruthBehind.lost d h = tt
+  dt-close (TruthBehind.is b zero) d h = tt
+  dt-close (TruthBehind.is b (suc e)) d h = omega arith
+
+  dr-and : (x : RabinBehind) (d : ℕ) → PairDeep x d → RabinDeep (rabinAnd x) d
+  dr-and RabinBehind.lost d h = tt
+  dr-and (RabinBehind.pair m b i) d h = h
+  dr-and (RabinBehind.group m) d h = tt
+
+  dr-or : (x : RabinBehind) (d : ℕ) → PairDeep x d → RabinDeep (rabinOr x) d
+  dr-or RabinBehind.lost d h = tt
+  dr-or (RabinBehind.pair m b zero) d h = omega arith
+  dr-or (RabinBehind.pair m b (suc i)) d h = tt
+  dr-or (RabinBehind.group m) d h = h
+
+  ds-and : (x : StreettBehind) (d : ℕ) → StropDeep x d → StreettDeep (streettAnd x) d
+  ds-and StreettBehind.lost d h = tt
+  ds-and (StreettBehind.fin m u) d h = tt
+  ds-and (StreettBehind.inf m v) d h = tt
+  ds-and (StreettBehind.pair m) d h = h
+
+  ds-or : (x : StreettBehind) (d : ℕ) → StropDeep x d → StreettDeep (streettOr x) d
+  ds-or StreettBehind.lost d h = tt
+  ds-or (StreettBehind.fin m u) d h = omega arith
+  ds-or (StreettBehind.inf m v) d h = tt
+  ds-or (StreettBehind.pair m) d h = tt
+
+  da-or : (x : Bare) (d : ℕ) → BareDeep x d → BareDeep (bareOr x) d
+  da-or Bare.lost d h = tt
+  da-or (Bare.fin zero) d h = h
+  da-or (Bare.fin (suc x)) d h = tt
+  da-or (Bare.inf v) d h = tt
+
+  deep-went : (n d d' n' : ℕ) (g g' : Stage) (p : Piece) → Went c n d g p d' n' g' → Deep d g → Deep d' g'
+  deep-went n d d' n' g g' p (opens {w = w} a) h =
+      record { buchi = db-open (w .buchi) d (h .buchi); rabin = dr-open (w .rabin) d (h .rabin); streett = ds-open (w .streett) d (h .streett); bare = da-open (w .bare) d (h .bare); truth = dt-open (w .truth) d (h .truth) }
+  deep-went n d d' n' g g' p (infs {w = w} l a) h =
+      record { buchi = h .buchi; rabin = dr-inf (w .rabin) d (h .rabin); streett = ds-inf (w .streett) d (h .streett); bare = da-inf (w .bare) d (h .bare); truth = tt }
+  deep-went n d d' n' g g' p (fins {w = w} l a) h =
+      record { buchi = tt; rabin = dr-fin (w .rabin) d (h .rabin); streett = ds-fin (w .streett) d (h .streett); bare = da-fin (w .bare) d (h .bare); truth = tt }
+  deep-went n d d' n' g g' p (truths {w = w} t a) h = record { buchi = tt; rabin = tt; streett = tt; bare = tt; truth = dt-is t (w .truth) d (h .truth) }
+  deep-went n d d' n' g g' p brackets h = h
+  deep-went n d d' n' g g' p (numbers k e) h = h
+  deep-went n d d' n' g g' p shuts h = h
+  deep-went n d d' n' g g' p (closed {d = i} {b = b} a) h =
+      record { buchi = db-close (b .buchi) i (h .buchi); rabin = dr-close (b .rabin) i (h .rabin); streett = ds-close (b .streett) i (h .streett); bare = da-close (b .bare) i (h .bare); truth = dt-close (b .truth) i (h .truth) }
+  deep-went n d d' n' g g' p (ands {b = b} l a) h = record { buchi = h .buchi; rabin = dr-and (b .rabin) d (h .rabin); streett = ds-and (b .streett) d (h .streett); bare = tt; truth = tt }
+  deep-went n d d' n' g g' p (ors {b = b} l a) h =
+      record { buchi = tt; rabin = dr-or (b .rabin) d (h .rabin); streett = ds-or (b .streett) d (h .streett); bare = da-or (b .bare) d (h .bare); truth = tt }
+
+  deep-walk : (ts : List Token) (s f : FormulaState) → freeWalk c s ts ≡ go f → Deep (s .depth) (s .stage) → Deep (f .depth) (f .stage)
+  unfolding freeWalk
+  deep-walk [] s f e h = subst (λ (x : FormulaState). Deep (x .depth) (x .stage)) (go-is e) h
+  deep-walk (t ∷ ts) s f e h =
+      let x = walked c s t ts f e in
+      deep-walk ts (x .0) f (x .2) (deep-went (s .atoms) (s .depth) (x .0 .depth) (x .0 .atoms) (s .stage) (x .0 .stage) (pieceOf t) (went c s t (x .0) (x .1)) h)

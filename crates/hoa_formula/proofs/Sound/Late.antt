@@ -1,4 +1,5 @@
--- 41 never falls late: what is admitted is the beginning of a formula of std(c) (`never-late`). Each state of a machine that goes on is completed to the
+-- 41 never falls late: what is admitted is the beginning of a formula of std(c) (`never-late`); and short is fewer than c atoms (`short-few`). Each state of a machine
+-- that goes on is completed to the
 -- c-th atom, and what every token keeps (`Fair`) says that there is room for that. Assumes nothing.
 use mathlib.Core.Bool.{Bool, true, false, cond, _&&_, _||_}
 use mathlib.Core.List.{List, [], _∷_, _++_}
@@ -7,8 +8,8 @@ use mathlib.Core.Logic.{_⊎_, inl, inr}
 use Prim.Native.Nat.{ℕ, zero, suc, _+_, _-_, _/_, _%_, _≤_, _<_}
 use native.Mathlib.Omega.{arith}
 use native.Mathlib.Decide.{decLt}
-use lib.Dec.{eqb}
-use borrow.Author.Tests.{eqb-true, eqb-false}
+use lib.Dec.{eqb, ltb}
+use borrow.Author.Tests.{eqb-true, eqb-false, ltb-true, ltb-false}
 use Rattle.hoa_tokens.specs.declared.Word.the-variants as word-is
 use Rattle.hoa_tokens.specs.Token.{Token, word}
 use Rattle.hoa_formula.specs.declared.machine.Piece.{Piece}
@@ -16,12 +17,17 @@ use Rattle.hoa_formula.specs.Standard.{left, right, both, either, atom, 
 use Rattle.hoa_formula.specs.Standard.{Rabin, rabinText, Single, Spair, Streett, Strop, streettText, stropText, stropEnd, spairText, singleText, Truth, truthText, Std}
 use Rattle.hoa_formula.specs.Standard.{stdText, IsStd}
 use Rattle.hoa_formula.specs.Machines.{Buchi, RabinWants, RabinBehind, StreettWants, StreettBehind, Bare, TruthWants, TruthBehind, Wants, Behind, begin}
-use Rattle.hoa_formula.specs.Machines.{streettOpen, streettInf, streettFin, streettClose, streettAnd, streettOr, bareOpen, bareInf, bareFin, bareClose, bareOr, truthOpen, truthIs, truthClose}
+use Rattle.hoa_formula.specs.Machines.{streettOpen, streettInf, streettFin, streettClose, streettAnd, streettOr, bareOpen, bareInf, bareFin, bareClose, bareOr, truthOpen}
+use Rattle.hoa_formula.specs.Machines.{truthIs, truthClose}
 use Rattle.hoa_formula.specs.Machines.{buchiOpen, buchiClose, rabinOpen, rabinInf, rabinFin, rabinClose, rabinAnd, rabinOr}
 use Rattle.hoa_formula.specs.Machines.{wantsOpen, wantsInf, wantsFin, wantsTruth, behindClose, behindAnd, behindOr, someWants, someBehind}
 use Rattle.hoa_formula.specs.Machines.{buchiLive, rabinWanting, rabinLive, streettWanting, streettLive, bareLive, truthWanting, truthLive}
 use Rattle.hoa_formula.specs.Formulas.{FormulaState, go, Stage, operand, named, bracket, number, after, pieceOf, formulaBegin}
-use Rattle.hoa_formula.specs.Walking.{freeWalk, Begins}
+use Rattle.hoa_formula.specs.Formulas.{truthDone, byDone, meaningOf}
+use Rattle.hoa_formula.specs.Standard.{FormulaMeaning, standard, short, noNeeds, rabinMeaning}
+use Rattle.hoa_formula.specs.Machines.{buchiDone, rabinDone, streettDone, bareDone}
+use Rattle.table.specs.declared.Acceptance.the-variants as acceptance
+use Rattle.hoa_formula.specs.Walking.{freeWalk, Begins, Stands}
 use Rattle.hoa_formula.proofs.Rests.{Went, opens, infs, fins, truths, brackets, numbers, shuts, closed, ands, ors, begun, forward, Some, went, walked, go-is}
 use Rattle.hoa_formula.proofs.Sound as sound
 
@@ -694,7 +700,8 @@ module _ (c : ℕ) where
 
   deep-went : (n d d' n' : ℕ) (g g' : Stage) (p : Piece) → Went c n d g p d' n' g' → Deep d g → Deep d' g'
   deep-went n d d' n' g g' p (opens {w = w} a) h =
-      record { buchi = db-open (w .buchi) d (h .buchi); rabin = dr-open (w .rabin) d (h .rabin); streett = ds-open (w .streett) d (h .streett); bare = da-open (w .bare) d (h .bare); truth = dt-open (w .truth) d (h .truth) }
+      record
+      { buchi = db-open (w .buchi) d (h .buchi); rabin = dr-open (w .rabin) d (h .rabin); streett = ds-open (w .streett) d (h .streett); bare = da-open (w .bare) d (h .bare); truth = dt-open (w .truth) d (h .truth) }
   deep-went n d d' n' g g' p (infs {w = w} l a) h =
       record { buchi = h .buchi; rabin = dr-inf (w .rabin) d (h .rabin); streett = ds-inf (w .streett) d (h .streett); bare = da-inf (w .bare) d (h .bare); truth = tt }
   deep-went n d d' n' g g' p (fins {w = w} l a) h =
@@ -704,8 +711,10 @@ module _ (c : ℕ) where
   deep-went n d d' n' g g' p (numbers k e) h = h
   deep-went n d d' n' g g' p shuts h = h
   deep-went n d d' n' g g' p (closed {d = i} {b = b} a) h =
-      record { buchi = db-close (b .buchi) i (h .buchi); rabin = dr-close (b .rabin) i (h .rabin); streett = ds-close (b .streett) i (h .streett); bare = da-close (b .bare) i (h .bare); truth = dt-close (b .truth) i (h .truth) }
-  deep-went n d d' n' g g' p (ands {b = b} l a) h = record { buchi = h .buchi; rabin = dr-and (b .rabin) d (h .rabin); streett = ds-and (b .streett) d (h .streett); bare = tt; truth = tt }
+      record
+      { buchi = db-close (b .buchi) i (h .buchi); rabin = dr-close (b .rabin) i (h .rabin); streett = ds-close (b .streett) i (h .streett); bare = da-close (b .bare) i (h .bare); truth = dt-close (b .truth) i (h .truth) }
+  deep-went n d d' n' g g' p (ands {b = b} l a) h =
+      record { buchi = h .buchi; rabin = dr-and (b .rabin) d (h .rabin); streett = ds-and (b .streett) d (h .streett); bare = tt; truth = tt }
   deep-went n d d' n' g g' p (ors {b = b} l a) h =
       record { buchi = tt; rabin = dr-or (b .rabin) d (h .rabin); streett = ds-or (b .streett) d (h .streett); bare = da-or (b .bare) d (h .bare); truth = tt }
 
@@ -715,3 +724,108 @@ module _ (c : ℕ) where
   deep-walk (t ∷ ts) s f e h =
       let x = walked c s t ts f e in
       deep-walk ts (x .0) f (x .2) (deep-went (s .atoms) (s .depth) (x .0 .depth) (x .0 .atoms) (s .stage) (x .0 .stage) (pieceOf t) (went c s t (x .0) (x .1)) h)
+
+  deep-begin : Deep (formulaBegin c .depth) (formulaBegin c .stage)
+  unfolding formulaBegin
+  deep-begin = record { buchi = refl; rabin = refl; streett = evens (eqb (c % 2) 0); bare = twos (eqb c 2); truth = nones (eqb c 0) }
+    where
+      evens : (t : Bool) → StreettDeep (cond t (StreettWants.fin 0 0) StreettWants.lost) 0
+      evens true = refl
+      evens false = tt
+
+      twos : (t : Bool) → BareDeep (cond t (Bare.fin 0) Bare.lost) 0
+      twos true = refl
+      twos false = tt
+
+      nones : (t : Bool) → TruthDeep (cond t (TruthWants.live 0) TruthWants.lost) 0
+      nones true = refl
+      nones false = tt
+
+  -- with no open bracket and c atoms each machine that goes on is complete
+  buchi-ends : (x : Buchi) → buchiLive x ≡ true → BuchiDeep x 0 → buchiDone x ≡ true
+  buchi-ends Buchi.lost e h = e
+  buchi-ends (Buchi.live zero) e h = refl
+  buchi-ends (Buchi.live (suc d)) e h = absurd (omega arith)
+
+  rabin-ends : (x : RabinBehind) → rabinLive x ≡ true → PairDeep x 0 → rabinDone x ≡ true
+  rabin-ends RabinBehind.lost e h = e
+  rabin-ends (RabinBehind.pair zero b zero) e h = refl
+  rabin-ends (RabinBehind.pair (suc m) b zero) e h = absurd (omega arith)
+  rabin-ends (RabinBehind.pair m b (suc i)) e h = absurd (omega arith)
+  rabin-ends (RabinBehind.group zero) e h = refl
+  rabin-ends (RabinBehind.group (suc m)) e h = absurd (omega arith)
+
+  streett-ends : (x : StreettBehind) → streettLive x ≡ true → StropDeep x 0 → streettDone x ≡ true
+  streett-ends StreettBehind.lost e h = e
+  streett-ends (StreettBehind.fin m u) e h = absurd (omega arith)
+  streett-ends (StreettBehind.inf m v) e h = absurd (omega arith)
+  streett-ends (StreettBehind.pair zero) e h = refl
+  streett-ends (StreettBehind.pair (suc m)) e h = absurd (omega arith)
+
+  bare-ends : (x : Bare) (n : ℕ) → n ≡ c → BarePast x n → bareLive x ≡ true → BareDeep x 0 → bareDone x ≡ true
+  bare-ends Bare.lost n q p e h = e
+  bare-ends (Bare.fin x) n q p e h = absurd (omega (arith, p .0, p .1))
+  bare-ends (Bare.inf zero) n q p e h = refl
+  bare-ends (Bare.inf (suc v)) n q p e h = absurd (omega arith)
+
+  truth-ends : (x : TruthBehind) → truthLive x ≡ true → ValueDeep x 0 → truthDone x ≡ short → ⊥
+  truth-ends TruthBehind.lost e h s = no-yes e
+  truth-ends (TruthBehind.is true zero) e h s = let z : _≡_ {A = ℕ} 0 1 = cc in omega arith
+  truth-ends (TruthBehind.is false zero) e h s = let z : _≡_ {A = ℕ} 0 1 = cc in omega arith
+  truth-ends (TruthBehind.is true (suc d)) e h s = omega arith
+  truth-ends (TruthBehind.is false (suc d)) e h s = omega arith
+
+  -- short only if none is complete
+  all-short : (x y z : Bool) (ns : List ℕ) (m : FormulaMeaning)
+      → cond x (standard (acceptance.Buchi c) noNeeds) (cond y (rabinMeaning ns) (cond z (standard (acceptance.Streett (c / 2)) noNeeds) m)) ≡ short
+      → (x ≡ false) × (y ≡ false) × (z ≡ false) × (m ≡ short)
+  all-short true y z ns m e = absurd (let z : _≡_ {A = ℕ} 0 1 = cc in omega arith)
+  all-short false true z ns m e = absurd (let z : _≡_ {A = ℕ} 0 1 = cc in omega arith)
+  all-short false false true ns m e = absurd (let z : _≡_ {A = ℕ} 0 1 = cc in omega arith)
+  all-short false false false ns m e = (refl, refl, refl, e)
+
+  clash : {x : Bool} → x ≡ false → x ≡ true → ⊥
+  clash p q = let z : _≡_ {A = ℕ} 0 1 = cc in omega arith
+
+  complete-not-short : (n : ℕ) (ns : List ℕ) (b : Behind) → n ≡ c → FairBehind n b → DeepBehind 0 b → byDone c ns b ≡ short → ⊥
+  complete-not-short n ns b q f g s =
+      two (or-cases (buchiLive (b .buchi)) (rabinLive (b .rabin) || (streettLive (b .streett) || (bareLive (b .bare) || truthLive (b .truth)))) (f .some))
+    where
+      a : (buchiDone (b .buchi) ≡ false) × (rabinDone (b .rabin) ≡ false) × ((streettDone (b .streett) || bareDone (b .bare)) ≡ false) × (truthDone (b .truth) ≡ short)
+      a = all-short (buchiDone (b .buchi)) (rabinDone (b .rabin)) (streettDone (b .streett) || bareDone (b .bare)) ns (truthDone (b .truth)) s
+
+      either-false : (x y : Bool) → x || y ≡ false → (x ≡ false) × (y ≡ false)
+      either-false true y e = absurd (clash e refl)
+      either-false false y e = (refl, e)
+
+      five : bareLive (b .bare) ≡ true ⊎ (truthLive (b .truth) ≡ true) → ⊥
+      five (inl e) = clash (either-false (streettDone (b .streett)) (bareDone (b .bare)) (a .2) .1) (bare-ends (b .bare) n q (f .bare) e (g .bare))
+      five (inr e) = truth-ends (b .truth) e (g .truth) (a .3)
+
+      four : streettLive (b .streett) ≡ true ⊎ (bareLive (b .bare) || truthLive (b .truth) ≡ true) → ⊥
+      four (inl e) = clash (either-false (streettDone (b .streett)) (bareDone (b .bare)) (a .2) .0) (streett-ends (b .streett) e (g .streett))
+      four (inr e) = five (or-cases (bareLive (b .bare)) (truthLive (b .truth)) e)
+
+      three : rabinLive (b .rabin) ≡ true ⊎ (streettLive (b .streett) || (bareLive (b .bare) || truthLive (b .truth)) ≡ true) → ⊥
+      three (inl e) = clash (a .1) (rabin-ends (b .rabin) e (g .rabin))
+      three (inr e) = four (or-cases (streettLive (b .streett)) (bareLive (b .bare) || truthLive (b .truth)) e)
+
+      two : buchiLive (b .buchi) ≡ true ⊎ (rabinLive (b .rabin) || (streettLive (b .streett) || (bareLive (b .bare) || truthLive (b .truth))) ≡ true) → ⊥
+      two (inl e) = clash (a .0) (buchi-ends (b .buchi) e (g .buchi))
+      two (inr e) = three (or-cases (rabinLive (b .rabin)) (streettLive (b .streett) || (bareLive (b .bare) || truthLive (b .truth))) e)
+
+  -- a formula that may be over is short only with fewer than c atoms
+  pub short-few : (ts : List Token) (f : FormulaState) → freeWalk c (formulaBegin c) ts ≡ go f → Stands c f short → f .atoms < c
+  unfolding meaningOf
+  short-few ts f e h = by (ltb (f .atoms) c) refl (h .means)
+    where
+      fair : FairBehind (f .atoms) (h .behind)
+      fair = subst (λ (g : Stage). Fair (f .atoms) g) (h .stage) (forward c Fair fair-went ts (formulaBegin c) f e fair-begin)
+
+      deep : DeepBehind 0 (h .behind)
+      deep = subst (λ (d : ℕ). DeepBehind d (h .behind)) (h .outside) (subst (λ (g : Stage). Deep (f .depth) g) (h .stage) (deep-walk ts (formulaBegin c) f e deep-begin))
+
+      by : (t : Bool) → ltb (f .atoms) c ≡ t → cond t short (byDone c (f .needs) (h .behind)) ≡ short → f .atoms < c
+      by true q s = ltb-true (f .atoms) c q
+      by false q s =
+          absurd (complete-not-short (f .atoms) (f .needs) (h .behind) (omega (arith, ltb-false (f .atoms) c q, fair .most)) fair deep s)

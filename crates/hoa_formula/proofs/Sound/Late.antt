@@ -1,6 +1,6 @@
--- 41 never falls late: what is admitted is the beginning of a formula of std(c) (`never-late`); and short is fewer than c atoms (`short-few`). Each state of a machine
--- that goes on is completed to the
--- c-th atom, and what every token keeps (`Fair`) says that there is room for that. Assumes nothing.
+-- 41 never falls late: what is admitted is the beginning of a formula of std(c) (`never-late`); and short is fewer than c atoms (`short-few`).
+-- Each state of a machine that goes on is completed to the c-th atom, and what every token keeps (`Fair`, `Deep`) says that there is room for that.
+-- Assumes nothing.
 use mathlib.Core.Bool.{Bool, true, false, cond, _&&_, _||_}
 use mathlib.Core.List.{List, [], _∷_, _++_}
 use mathlib.Core.Path.{_≡_, refl, sym, ap, subst, _∙_}

@@ -700,8 +700,13 @@ module _ (c : ℕ) where
 
   deep-went : (n d d' n' : ℕ) (g g' : Stage) (p : Piece) → Went c n d g p d' n' g' → Deep d g → Deep d' g'
   deep-went n d d' n' g g' p (opens {w = w} a) h =
-      record
-      { buchi = db-open (w .buchi) d (h .buchi); rabin = dr-open (w .rabin) d (h .rabin); streett = ds-open (w .streett) d (h .streett); bare = da-open (w .bare) d (h .bare); truth = dt-open (w .truth) d (h .truth) }
+      record {
+        buchi = db-open (w .buchi) d (h .buchi);
+        rabin = dr-open (w .rabin) d (h .rabin);
+        streett = ds-open (w .streett) d (h .streett);
+        bare = da-open (w .bare) d (h .bare);
+        truth = dt-open (w .truth) d (h .truth);
+      }
   deep-went n d d' n' g g' p (infs {w = w} l a) h =
       record { buchi = h .buchi; rabin = dr-inf (w .rabin) d (h .rabin); streett = ds-inf (w .streett) d (h .streett); bare = da-inf (w .bare) d (h .bare); truth = tt }
   deep-went n d d' n' g g' p (fins {w = w} l a) h =
@@ -711,8 +716,13 @@ module _ (c : ℕ) where
   deep-went n d d' n' g g' p (numbers k e) h = h
   deep-went n d d' n' g g' p shuts h = h
   deep-went n d d' n' g g' p (closed {d = i} {b = b} a) h =
-      record
-      { buchi = db-close (b .buchi) i (h .buchi); rabin = dr-close (b .rabin) i (h .rabin); streett = ds-close (b .streett) i (h .streett); bare = da-close (b .bare) i (h .bare); truth = dt-close (b .truth) i (h .truth) }
+      record {
+        buchi = db-close (b .buchi) i (h .buchi);
+        rabin = dr-close (b .rabin) i (h .rabin);
+        streett = ds-close (b .streett) i (h .streett);
+        bare = da-close (b .bare) i (h .bare);
+        truth = dt-close (b .truth) i (h .truth);
+      }
   deep-went n d d' n' g g' p (ands {b = b} l a) h =
       record { buchi = h .buchi; rabin = dr-and (b .rabin) d (h .rabin); streett = ds-and (b .streett) d (h .streett); bare = tt; truth = tt }
   deep-went n d d' n' g g' p (ors {b = b} l a) h =

@@ -24,3 +24,5 @@ pub mod Conds
 pub mod Examples
 -- Unique: two answers for one text say the same
 pub mod Unique
+-- Forty: 40 never falls early
+pub mod Forty

@@ -1,7 +1,7 @@
 -- What is admitted is the beginning of a formula (`Rest`): each admitted token puts a piece in front of what is left. One induction over the tokens
 -- (`rest`), for any machine that says what each of its states still wants. Assumes nothing.
 use mathlib.Core.Bool.{Bool, true, false, cond, _&&_}
-use mathlib.Core.List.{List, [], _∷_}
+use mathlib.Core.List.{List, [], _∷_, _++_}
 use mathlib.Core.Path.{_≡_, refl, sym, ap, subst, _∙_}
 use Prim.Native.Nat.{ℕ, zero, suc, _≤_, _<_}
 use native.Mathlib.Omega.{arith}
@@ -71,16 +71,16 @@ exact bad = tt
 
 -- from (depth, atoms, stage) by a token to (depth, atoms, stage)
 pub data Went (c n : ℕ) : ℕ → Stage → Piece → ℕ → ℕ → Stage → Type 0 where
-  opens : {d : ℕ} {w : Wants} → Went c n d (operand w) piece-is.Left (suc d) n (operand (wantsOpen w))
-  infs : {d : ℕ} {w : Wants} → n < c → Went c n d (operand w) piece-is.Inf d (suc n) (named (wantsInf w))
-  fins : {d : ℕ} {w : Wants} → n < c → Went c n d (operand w) piece-is.Fin d (suc n) (named (wantsFin w))
-  truths : {d : ℕ} {w : Wants} (t : Bool) → Went c n d (operand w) (piece-is.Truth t) d n (after (wantsTruth t w))
+  opens : {d : ℕ} {w : Wants} → someWants (wantsOpen w) ≡ true → Went c n d (operand w) piece-is.Left (suc d) n (operand (wantsOpen w))
+  infs : {d : ℕ} {w : Wants} → n < c → someBehind (wantsInf w) ≡ true → Went c n d (operand w) piece-is.Inf d (suc n) (named (wantsInf w))
+  fins : {d : ℕ} {w : Wants} → n < c → someBehind (wantsFin w) ≡ true → Went c n d (operand w) piece-is.Fin d (suc n) (named (wantsFin w))
+  truths : {d : ℕ} {w : Wants} (t : Bool) → someBehind (wantsTruth t w) ≡ true → Went c n d (operand w) (piece-is.Truth t) d n (after (wantsTruth t w))
   brackets : {d : ℕ} {b : Behind} → Went c n d (named b) piece-is.Left d n (bracket b)
   numbers : {d : ℕ} {b : Behind} (k : ℕ) → suc k ≡ n → Went c n d (bracket b) (piece-is.Number k) d n (number b)
   shuts : {d : ℕ} {b : Behind} → Went c n d (number b) piece-is.Right d n (after b)
-  closed : {d : ℕ} {b : Behind} → Went c n (suc d) (after b) piece-is.Right d n (after (behindClose b))
-  ands : {d : ℕ} {b : Behind} → n < c → Went c n d (after b) piece-is.And d n (operand (behindAnd b))
-  ors : {d : ℕ} {b : Behind} → n < c → Went c n d (after b) piece-is.Or d n (operand (behindOr b))
+  closed : {d : ℕ} {b : Behind} → someBehind (behindClose b) ≡ true → Went c n (suc d) (after b) piece-is.Right d n (after (behindClose b))
+  ands : {d : ℕ} {b : Behind} → n < c → someWants (behindAnd b) ≡ true → Went c n d (after b) piece-is.And d n (operand (behindAnd b))
+  ors : {d : ℕ} {b : Behind} → n < c → someWants (behindOr b) ≡ true → Went c n d (after b) piece-is.Or d n (operand (behindOr b))
 
 abbrev To : ℕ → ℕ → ℕ → Stage → Piece → FormulaState → Type 0
 To c n d g p s = Went c n d g p (s .depth) (s .atoms) (s .stage)
@@ -106,20 +106,35 @@ both-true : (a b : Bool) → a && b ≡ true → a ≡ true
 both-true true b e = refl
 both-true false b e = e
 
-wants-went : (c n d d' : ℕ) (ns : List ℕ) (g : Stage) (p : Piece) (w : Wants) (s : FormulaState) → Went c n d g p d' n (operand w) → goWants d' n ns w ≡ go s → To c n d g p s
-wants-went c n d d' ns g p w s h e = subst (λ (x : FormulaState). To c n d g p x) (tested (someWants w) (state d' n ns (operand w)) s e .1) h
+wants-went : (c n d d' : ℕ) (ns : List ℕ) (g : Stage) (p : Piece) (w : Wants) (s : FormulaState) → (someWants w ≡ true → Went c n d g p d' n (operand w))
+    → goWants d' n ns w ≡ go s
+    → To c n d g p s
+wants-went c n d d' ns g p w s h e =
+    let t = tested (someWants w) (state d' n ns (operand w)) s e in
+    subst (λ (x : FormulaState). To c n d g p x) (t .1) (h (t .0))
 
-after-went : (c n d d' : ℕ) (ns : List ℕ) (g : Stage) (p : Piece) (b : Behind) (s : FormulaState) → Went c n d g p d' n (after b) → goAfter d' n ns b ≡ go s → To c n d g p s
-after-went c n d d' ns g p b s h e = subst (λ (x : FormulaState). To c n d g p x) (tested (someBehind b) (state d' n ns (after b)) s e .1) h
+after-went : (c n d d' : ℕ) (ns : List ℕ) (g : Stage) (p : Piece) (b : Behind) (s : FormulaState) → (someBehind b ≡ true → Went c n d g p d' n (after b))
+    → goAfter d' n ns b ≡ go s
+    → To c n d g p s
+after-went c n d d' ns g p b s h e =
+    let t = tested (someBehind b) (state d' n ns (after b)) s e in
+    subst (λ (x : FormulaState). To c n d g p x) (t .1) (h (t .0))
 
-named-went : (c n d : ℕ) (ns : List ℕ) (g : Stage) (p : Piece) (b : Behind) (s : FormulaState)
-    → (n < c → Went c n d g p d (suc n) (named b)) → goNamed c d n ns b ≡ go s → To c n d g p s
+both-right : (a b : Bool) → a && b ≡ true → b ≡ true
+both-right true b e = e
+both-right false b e = absurd (let z : _≡_ {A = ℕ} 0 1 = cc in omega arith)
+
+named-went : (c n d : ℕ) (ns : List ℕ) (g : Stage) (p : Piece) (b : Behind) (s : FormulaState) → (n < c → someBehind b ≡ true → Went c n d g p d (suc n) (named b))
+    → goNamed c d n ns b ≡ go s
+    → To c n d g p s
 named-went c n d ns g p b s h e =
     let t = tested (ltb n c && someBehind b) (state d (suc n) ns (named b)) s e in
-    subst (λ (x : FormulaState). To c n d g p x) (t .1) (h (ltb-true n c (both-true (ltb n c) (someBehind b) (t .0))))
+    subst (λ (x : FormulaState). To c n d g p x) (t .1)
+    (h (ltb-true n c (both-true (ltb n c) (someBehind b) (t .0))) (both-right (ltb n c) (someBehind b) (t .0)))
 
-joined-went : (c n d : ℕ) (ns : List ℕ) (g : Stage) (p : Piece) (w : Wants) (t : Bool) (s : FormulaState)
-    → ltb n c ≡ t → (n < c → Went c n d g p d n (operand w)) → cond t (goWants d n ns w) (wrong 41) ≡ go s
+joined-went : (c n d : ℕ) (ns : List ℕ) (g : Stage) (p : Piece) (w : Wants) (t : Bool) (s : FormulaState) → ltb n c ≡ t
+    → (n < c → someWants w ≡ true → Went c n d g p d n (operand w))
+    → cond t (goWants d n ns w) (wrong 41) ≡ go s
     → To c n d g p s
 joined-went c n d ns g p w true s q h e = wants-went c n d d ns g p w s (h (ltb-true n c q)) e
 joined-went c n d ns g p w false s q h e = not-wrong 41 s e
@@ -133,17 +148,17 @@ number-went c n d k ns b s e =
 
 closes-went : (c d n : ℕ) (ns : List ℕ) (b : Behind) (s : FormulaState) → closes c d n ns b ≡ go s → To c n d (after b) piece-is.Right s
 closes-went c zero n ns b s e = not-over (meaningOf c n ns b) s e
-closes-went c (suc d) n ns b s e = after-went c n (suc d) d ns (after b) piece-is.Right (behindClose b) s closed e
+closes-went c (suc d) n ns b s e = after-went c n (suc d) d ns (after b) piece-is.Right (behindClose b) s (λ a. closed a) e
 
 operand-went : (c d n : ℕ) (ns : List ℕ) (w : Wants) (p : Piece) (s : FormulaState) → onOperand c d n ns w p ≡ go s → To c n d (operand w) p s
-operand-went c d n ns w piece-is.Left s e = wants-went c n d (suc d) ns (operand w) piece-is.Left (wantsOpen w) s opens e
+operand-went c d n ns w piece-is.Left s e = wants-went c n d (suc d) ns (operand w) piece-is.Left (wantsOpen w) s (λ a. opens a) e
 operand-went c d n ns w piece-is.Right s e = not-wrong 40 s e
 operand-went c d n ns w piece-is.And s e = not-wrong 40 s e
 operand-went c d n ns w piece-is.Or s e = not-wrong 40 s e
 operand-went c d n ns w piece-is.Not s e = not-wrong 40 s e
-operand-went c d n ns w piece-is.Inf s e = named-went c n d (needsInf (w .rabin) ns) (operand w) piece-is.Inf (wantsInf w) s (λ l. infs l) e
-operand-went c d n ns w piece-is.Fin s e = named-went c n d (needsFin (w .rabin) ns) (operand w) piece-is.Fin (wantsFin w) s (λ l. fins l) e
-operand-went c d n ns w (piece-is.Truth x) s e = after-went c n d d ns (operand w) (piece-is.Truth x) (wantsTruth x w) s (truths x) e
+operand-went c d n ns w piece-is.Inf s e = named-went c n d (needsInf (w .rabin) ns) (operand w) piece-is.Inf (wantsInf w) s (λ l a. infs l a) e
+operand-went c d n ns w piece-is.Fin s e = named-went c n d (needsFin (w .rabin) ns) (operand w) piece-is.Fin (wantsFin w) s (λ l a. fins l a) e
+operand-went c d n ns w (piece-is.Truth x) s e = after-went c n d d ns (operand w) (piece-is.Truth x) (wantsTruth x w) s (λ a. truths x a) e
 operand-went c d n ns w piece-is.Name s e = not-wrong 41 s e
 operand-went c d n ns w (piece-is.Number k) s e = not-wrong 40 s e
 operand-went c d n ns w piece-is.Abort s e = not-wrong 41 s e
@@ -194,8 +209,8 @@ number-goes c d n ns b piece-is.Foreign s e = not-wrong 40 s e
 after-goes : (c d n : ℕ) (ns : List ℕ) (b : Behind) (p : Piece) (s : FormulaState) → onAfter c d n ns b p ≡ go s → To c n d (after b) p s
 after-goes c d n ns b piece-is.Left s e = not-ends d (meaningOf c n ns b) 40 s e
 after-goes c d n ns b piece-is.Right s e = closes-went c d n ns b s e
-after-goes c d n ns b piece-is.And s e = joined-went c n d ns (after b) piece-is.And (behindAnd b) (ltb n c) s refl (λ l. ands l) e
-after-goes c d n ns b piece-is.Or s e = joined-went c n d ns (after b) piece-is.Or (behindOr b) (ltb n c) s refl (λ l. ors l) e
+after-goes c d n ns b piece-is.And s e = joined-went c n d ns (after b) piece-is.And (behindAnd b) (ltb n c) s refl (λ l a. ands l a) e
+after-goes c d n ns b piece-is.Or s e = joined-went c n d ns (after b) piece-is.Or (behindOr b) (ltb n c) s refl (λ l a. ors l a) e
 after-goes c d n ns b piece-is.Not s e = not-ends d (meaningOf c n ns b) 40 s e
 after-goes c d n ns b piece-is.Inf s e = not-ends d (meaningOf c n ns b) 40 s e
 after-goes c d n ns b piece-is.Fin s e = not-ends d (meaningOf c n ns b) 40 s e
@@ -229,6 +244,14 @@ walked c s t ts f e = by (freeStep c s t) refl e
 
 -- ---- what is left
 
+-- something that the stage still wants
+abbrev pub Some : (Wants → ℕ → List Token → Type 0) → (Behind → ℕ → List Token → Type 0) → Stage → ℕ → Type 0
+Some RW RB (operand w) n = (us : List Token) × RW w n us
+Some RW RB (named b) n = (0 < n) × ((us : List Token) × RB b n us)
+Some RW RB (bracket b) n = (0 < n) × ((us : List Token) × RB b n us)
+Some RW RB (number b) n = (us : List Token) × RB b n us
+Some RW RB (after b) n = (us : List Token) × RB b n us
+
 module _ (c : ℕ) (RW : Wants → ℕ → List Token → Type 0) (RB : Behind → ℕ → List Token → Type 0)
     (f-open : (w : Wants) (n : ℕ) (ts : List Token) → RW (wantsOpen w) n ts → RW w n (left ts))
     (f-inf : (w : Wants) (n : ℕ) (ts : List Token) → n < c → RB (wantsInf w) (suc n) ts → RW w n (atom word-is.Inf n ts))
@@ -247,20 +270,20 @@ module _ (c : ℕ) (RW : Wants → ℕ → List Token → Type 0) (RB : Behind �
 
   -- one token in front
   front : (n d d' n' : ℕ) (g g' : Stage) (p : Piece) (t : Token) (ts : List Token) → Went c n d g p d' n' g' → Exact p t → Rest g' n' ts → Rest g n (t ∷ ts)
-  front n d d' n' g g' p t ts (opens {w = w}) x h = rw x (f-open w n ts h)
-  front n d d' n' g g' p t ts (infs {w = w} l) x h =
+  front n d d' n' g g' p t ts (opens {w = w} a) x h = rw x (f-open w n ts h)
+  front n d d' n' g g' p t ts (infs {w = w} l a) x h =
       let j : n ≡ h .0 = omega (arith, h .2) in
       rw (x, h .3, ← j) (f-inf w n (h .1) l (h .4))
-  front n d d' n' g g' p t ts (fins {w = w} l) x h =
+  front n d d' n' g g' p t ts (fins {w = w} l a) x h =
       let j : n ≡ h .0 = omega (arith, h .2) in
       rw (x, h .3, ← j) (f-fin w n (h .1) l (h .4))
-  front n d d' n' g g' p t ts (truths {w = w} b) x h = rw x (f-truth b w n ts h)
+  front n d d' n' g g' p t ts (truths {w = w} b a) x h = rw x (f-truth b w n ts h)
   front n d d' n' g g' p t ts brackets x h = (h .0, h .1, h .2, rw (x, h .3), h .4)
   front n d d' n' g g' p t ts (numbers k e) x h = (k, h .0, sym e, rw (x, h .1), h .2)
   front n d d' n' g g' p t ts shuts x h = (ts, rw x, h)
-  front n d d' n' g g' p t ts (closed {b = b}) x h = rw x (f-close b n ts h)
-  front n d d' n' g g' p t ts (ands {b = b} l) x h = rw x (f-and b n ts l h)
-  front n d d' n' g g' p t ts (ors {b = b} l) x h = rw x (f-or b n ts l h)
+  front n d d' n' g g' p t ts (closed {b = b} a) x h = rw x (f-close b n ts h)
+  front n d d' n' g g' p t ts (ands {b = b} l a) x h = rw x (f-and b n ts l h)
+  front n d d' n' g g' p t ts (ors {b = b} l a) x h = rw x (f-or b n ts l h)
 
   -- what a walk has admitted
   pub rest : (ts : List Token) (s f : FormulaState) → freeWalk c s ts ≡ go f → Rest (f .stage) (f .atoms) [] → Rest (s .stage) (s .atoms) ts
@@ -269,3 +292,40 @@ module _ (c : ℕ) (RW : Wants → ℕ → List Token → Type 0) (RB : Behind �
   rest (t ∷ ts) s f e h =
       let x = walked c s t ts f e in
       front (s .atoms) (s .depth) (x .0 .depth) (x .0 .atoms) (s .stage) (x .0 .stage) (pieceOf t) t ts (went c s t (x .0) (x .1)) (exact t) (rest ts (x .0) f (x .2) h)
+
+  -- what a walk has admitted, before what is left
+  pub rest-on : (ts us : List Token) (s f : FormulaState) → freeWalk c s ts ≡ go f → Rest (f .stage) (f .atoms) us → Rest (s .stage) (s .atoms) (ts ++ us)
+  unfolding freeWalk
+  rest-on [] us s f e h = rw (go-is e) h
+  rest-on (t ∷ ts) us s f e h =
+      let x = walked c s t ts f e in
+      front (s .atoms) (s .depth) (x .0 .depth) (x .0 .atoms) (s .stage) (x .0 .stage) (pieceOf t) t (ts ++ us) (went c s t (x .0) (x .1)) (exact t)
+      (rest-on ts us (x .0) f (x .2) h)
+
+  some-rest : (g : Stage) (n : ℕ) → Some RW RB g n → (us : List Token) × Rest g n us
+  some-rest (operand w) n h = h
+  some-rest (named b) zero h = absurd (omega (arith, h .0))
+  some-rest (named b) (suc j) h = (left (int j ∷ right (h .1 .0)), (j, h .1 .0, refl, refl, h .1 .1))
+  some-rest (bracket b) zero h = absurd (omega (arith, h .0))
+  some-rest (bracket b) (suc j) h = (int j ∷ right (h .1 .0), (j, h .1 .0, refl, refl, h .1 .1))
+  some-rest (number b) n h = (right (h .0), (h .0, refl, h .1))
+  some-rest (after b) n h = h
+
+  -- a walk that can go on has admitted the beginning of something
+  pub begun : (ts : List Token) (s f : FormulaState) → freeWalk c s ts ≡ go f → Some RW RB (f .stage) (f .atoms) → (us : List Token) × Rest (s .stage) (s .atoms) (ts ++ us)
+  begun ts s f e h =
+      let r = some-rest (f .stage) (f .atoms) h in
+      (r .0, rest-on ts (r .0) s f e (r .1))
+
+-- what every token keeps is kept by a walk
+pub forward : (c : ℕ) (Q : ℕ → Stage → Type 0)
+    → ((n d d' n' : ℕ) (g g' : Stage) (p : Piece) → Went c n d g p d' n' g' → Q n g → Q n' g')
+    → (ts : List Token) (s f : FormulaState)
+    → freeWalk c s ts ≡ go f
+    → Q (s .atoms) (s .stage)
+    → Q (f .atoms) (f .stage)
+unfolding freeWalk
+forward c Q k [] s f e h = subst (λ (x : FormulaState). Q (x .atoms) (x .stage)) (go-is e) h
+forward c Q k (t ∷ ts) s f e h =
+    let x = walked c s t ts f e in
+    forward c Q k ts (x .0) f (x .2) (k (s .atoms) (s .depth) (x .0 .depth) (x .0 .atoms) (s .stage) (x .0 .stage) (pieceOf t) (went c s t (x .0) (x .1)) h)

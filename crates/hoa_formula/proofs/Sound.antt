@@ -1,5 +1,6 @@
 -- What stands complete is a formula of std(c) with that meaning (`sound`): for each kind, what its machine's states still want (`..Wants`, `..Behind`).
 -- Assumes nothing.
+pub mod Late
 use mathlib.Core.Bool.{Bool, true, false, cond, _&&_, _||_}
 use mathlib.Core.List.{List, [], _∷_}
 use mathlib.Core.Path.{_≡_, refl, sym, ap, subst, _∙_}
@@ -469,16 +470,16 @@ truth-rest c ts f b e g h =
 
 -- no walk begins more than c atoms
 atoms-went : (c n d d' n' : ℕ) (g g' : Stage) (p : Piece) → Went c n d g p d' n' g' → n ≤ c → n' ≤ c
-atoms-went c n d d' n' g g' p opens l = l
-atoms-went c n d d' n' g g' p (infs h) l = h
-atoms-went c n d d' n' g g' p (fins h) l = h
-atoms-went c n d d' n' g g' p (truths t) l = l
+atoms-went c n d d' n' g g' p (opens a) l = l
+atoms-went c n d d' n' g g' p (infs h a) l = h
+atoms-went c n d d' n' g g' p (fins h a) l = h
+atoms-went c n d d' n' g g' p (truths t a) l = l
 atoms-went c n d d' n' g g' p brackets l = l
 atoms-went c n d d' n' g g' p (numbers k e) l = l
 atoms-went c n d d' n' g g' p shuts l = l
-atoms-went c n d d' n' g g' p closed l = l
-atoms-went c n d d' n' g g' p (ands h) l = l
-atoms-went c n d d' n' g g' p (ors h) l = l
+atoms-went c n d d' n' g g' p (closed a) l = l
+atoms-went c n d d' n' g g' p (ands h a) l = l
+atoms-went c n d d' n' g g' p (ors h a) l = l
 
 atoms-walk : (c : ℕ) (ts : List Token) (s f : FormulaState) → freeWalk c s ts ≡ go f → s .atoms ≤ c → f .atoms ≤ c
 unfolding freeWalk

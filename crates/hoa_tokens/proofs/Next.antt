@@ -82,6 +82,15 @@ found-stands : (text : List ℕ) (at : ℕ) (f : Found) → TokenAt text at f
     → Stands at (length (drop at text)) (placed (f .first) (f .next) (tokenOf text (f .first) (f .next) (f .kind)))
 found-stands text at f h = rw (h .is) at (stands at (drop at text))
 
+-- what stands first is found
+pub found-at : (text : List ℕ) (at : ℕ) (f : Found) → first at (drop at text) ≡ placed (f .first) (f .next) (tokenOf text (f .first) (f .next) (f .kind))
+    → TokenAt text at f
+found-at text at f e = go (rw e at (stands at (drop at text)))
+  where
+    go : Stands at (length (drop at text)) (placed (f .first) (f .next) (tokenOf text (f .first) (f .next) (f .kind))) → TokenAt text at f
+    go (over _ a b) = record { is = e; behind-at = omega arith; behind-first = omega arith; within = λ (l : at ≤ length text). omega (arith, length-drop at text) }
+    go (there _ a b d) = record { is = e; behind-at = a; behind-first = omega arith; within = λ (l : at ≤ length text). omega (arith, length-drop at text) }
+
 -- a token but the text's end takes a byte
 pub record Moves (text : List ℕ) (at : ℕ) (f : Found) : Type 0 where
   pub behind-at : at ≤ f .first

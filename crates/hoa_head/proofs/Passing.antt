@@ -2,13 +2,15 @@
 use mathlib.Core.Path.{_≡_, refl, sym, ap, _∙_}
 use mathlib.Core.Bool.{Bool, true, false}
 use mathlib.Core.List.{List, [], _∷_}
-use Prim.Native.Nat.{ℕ, _≤_, _<_}
+use Prim.Native.Nat.{ℕ, _-_, _≤_, _<_}
 use native.Mathlib.Omega.{arith}
 use lib.ListN.{length}
 use Rattle.hoa_tokens.specs.Token.{Token, str}
 use Rattle.hoa_tokens.specs.Stream.{tokensAt}
 use Rattle.hoa_step.specs.Machine.{go, wrong, wrongAt, run, wantsText}
-use Rattle.hoa_step.specs.Wanted.{Next, Faulty, Quoted, textFault}
+use Rattle.hoa_step.specs.declared.TextRead.{TextRead}
+use Rattle.hoa_step.specs.declared.TextRead.the-variants as text-read
+use Rattle.hoa_step.specs.Wanted.{Next, Faulty, Quoted, textFault, TextReads}
 use Rattle.hoa_step.proofs.Runs.{first-goes, first-wrong, first-same, text-wrong, faulty-within}
 use Rattle.hoa_head.specs.declared.Head.{Head}
 use Rattle.hoa_head.specs.declared.token.Spot.{Spot}
@@ -32,6 +34,9 @@ none-so-far text at ints texts l = record { says = λ h. refl; behind-at = omega
 module _ (text : List ℕ) (at : ℕ) (ints texts : Bool) (next : ℕ) (r : Spot) (f : SoFar text at ints texts next) (s : Spotted text next r) where
   pub hint-next : isHint ints texts (r .piece) ≡ true → Next text next (r .first) (r .next) (s .token)
   hint-next e = s .goes-on (hint-known ints texts (r .piece) e)
+
+  pub hint-less : isHint ints texts (r .piece) ≡ true → length text - r .next < length text - next
+  hint-less e = let n = hint-next e in omega (arith, n .behind-at, n .takes, n .within)
 
   pub hint-goes : isHint ints texts (r .piece) ≡ true → SoFar text at ints texts (r .next)
   unfolding headStep
@@ -77,6 +82,12 @@ module _ (text : List ℕ) (at : ℕ) (r : Spot) (s : Spotted text at r) where
 
 -- ---- a STRING that is passed over
 
+pub text-there : (text : List ℕ) (at : ℕ) (r : TextRead) {q : ℕ} → r ≡ text-read.Behind q → TextReads text at r → Quoted text at q
+text-there text at r e h = rw e at h
+
+pub text-not : (text : List ℕ) (at : ℕ) (r : TextRead) {n p : ℕ} → r ≡ text-read.Refused n p → TextReads text at r → Faulty text at textFault n p
+text-not text at r e h = rw e at h
+
 pub text-stops : (text : List ℕ) (at n p : ℕ) (from to after : Head → HeadState) → ((h : Head) (t : Token) → headStep (from h) t ≡ wantsText (after h) t)
     → Faulty text at textFault n p → at ≤ length text → Passes text at from to (passed.Refused n p)
 text-stops text at n p from to after w f l =
@@ -94,9 +105,9 @@ unfolding headStep
 tool-text h t = refl
 
 -- name:
-pub name-goes : (text : List ℕ) (at next : ℕ) → Quoted text at next → Passes text at nameText items (passed.Behind next)
+pub name-passed : (text : List ℕ) (at next : ℕ) → Quoted text at next → Passes text at nameText items (passed.Behind next)
 unfolding headStep wantsText
-name-goes text at next q =
+name-passed text at next q =
     let n = q .there in
     record {
       says = λ h. first-goes headStep text at (n .is) (items h) refl;

@@ -13,7 +13,9 @@ use Rattle.hoa_tokens.proofs.Sizes.{byTest}
 use Rattle.hoa_step.specs.declared.Given.{Given}
 use Rattle.hoa_step.specs.Given.{notBelow, notAbove}
 use Rattle.hoa_step.specs.Machine.{Step, go, wrong, End, wrongAt, endBy, run, wantsInt}
-use Rattle.hoa_step.specs.Wanted.{Next, Faulty, intFault}
+use Rattle.hoa_step.specs.declared.IntRead.{IntRead}
+use Rattle.hoa_step.specs.declared.IntRead.the-variants as int-read
+use Rattle.hoa_step.specs.Wanted.{Next, Faulty, intFault, IntReads}
 use Rattle.hoa_step.proofs.Runs.{first-goes, first-wrong, first-same, first-is, int-wrong, faulty-within}
 use Rattle.job_text.specs.Job.{mostJobStates}
 use Rattle.hoa_head.specs.declared.Head.{Head}
@@ -26,6 +28,14 @@ use Rattle.hoa_head.specs.Heading.{HeadState, HeadStep, items, statesInt
 use Rattle.hoa_head.specs.inner.Pieces.{Spotted, isJoin}
 use Rattle.hoa_head.specs.inner.Turns.{countedEnd, CountedIn, countedBy, statesFault, startFault, StatesRead, StartRead, Passes}
 use Rattle.hoa_head.proofs.Pieces.{join-is, join-not}
+
+-- ---- an INT that was read
+
+pub int-there : (text : List ℕ) (at : ℕ) (r : IntRead) {v p q : ℕ} → r ≡ int-read.Value v p q → IntReads text at r → Next text at p q (int v)
+int-there text at r e h = rw e at h
+
+pub int-not : (text : List ℕ) (at : ℕ) (r : IntRead) {n p : ℕ} → r ≡ int-read.Refused n p → IntReads text at r → Faulty text at intFault n p
+int-not text at r e h = rw e at h
 
 -- ---- a value by its fault
 
@@ -62,7 +72,7 @@ states-goes text at v p q start r n e =
     record {
       says = λ h g.
           first-is headStep text at (n .is) (statesInt h)
-          ∙ rw (on-states h v, g) (step-ends text (statesFault v start) v p q (λ x. items (withStates x h)));
+          ∙ rw (on-states h v, ← g) (step-ends text (statesFault v (h .start)) v p q (λ x. items (withStates x h)));
       stays = by-in text at (statesFault v start) v p q (omega (arith, n .behind-at, n .takes)) (n .within) (omega (arith, n .takes, n .within));
     }
 

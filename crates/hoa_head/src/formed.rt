@@ -1,10 +1,10 @@
 // The INT of Acceptance: and its formula. Relies on `token`, and on the crates `hoa_step` and `hoa_formula`.
 use crate::stub::FormulaFound;
 use crate::stub::read_formula;
-use crate::stub::read_int;
 use crate::token::look;
 use crate::token::unfinished;
 use hoa_step::IntRead;
+use hoa_step::read_int;
 use table::Acceptance;
 ghost use mathlib.Core.Path.{_≡_};
 ghost use Prim.Native.Nat.{_≤_};

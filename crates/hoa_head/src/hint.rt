@@ -1,11 +1,11 @@
 // What is passed over: the words of acc-name:, properties: and unknown items, the STRINGs of tool: and name:. Relies on `token`, and on the crate `hoa_step`.
-use crate::stub::read_text;
 use crate::token::is_hint;
 use crate::token::is_text;
 use crate::token::is_word;
 use crate::token::look;
 use crate::token::stray;
 use hoa_step::TextRead;
+use hoa_step::read_text;
 ghost use mathlib.Core.Path.{_≡_};
 ghost use Prim.Native.Nat.{_≤_};
 ghost use lib.ListN.{length};

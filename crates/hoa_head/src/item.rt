@@ -15,13 +15,14 @@ use crate::value::read_start;
 use crate::value::read_states;
 use hoa_step::Given;
 use hoa_tokens::Header;
+use table::Acceptance;
 ghost use mathlib.Core.Path.{_≡_};
 ghost use Prim.Native.Nat.{_≤_, _+_};
 ghost use lib.ListN.{length};
 ghost use Rattle.hoa_step.specs.Given.{isGiven};
 ghost use Rattle.hoa_head.specs.Heading.{items, statesInt, startInt, propsInt, marksInt, accName, toolText, nameText, hints};
-ghost use Rattle.hoa_head.specs.Head.{withAccName, withTool, withName};
-ghost use Rattle.hoa_head.specs.inner.Turns.{second, refusedTurn, passedTurn, bodyTurn, Turned, Opened};
+ghost use Rattle.hoa_head.specs.Head.{withMarks, withAccName, withTool, withName};
+ghost use Rattle.hoa_head.specs.inner.Turns.{second, withNumbers, refusedTurn, passedTurn, bodyTurn, Turned, Opened};
 
 // Where the next item may begin, the byte behind `--BODY--`, or the refusal.
 pub(crate) enum Turn {
@@ -94,21 +95,60 @@ fn turn_passed(passed: Passed, head: Head) -> HeadTurn
     }
 }
 
+// The header with these numbers.
+fn with_numbers(head: Head, states: Given, start: Given, props: Given, marks: Given) -> Head
+    ensures { λ r. ⌜ r ≡ withNumbers head states start props marks ⌝ }
+{
+    let condition = head.condition;
+    let needs = head.needs;
+    Head {
+        states,
+        start,
+        props,
+        marks,
+        hint: head.hint,
+        tool: head.tool,
+        name: head.name,
+        condition,
+        needs,
+    }
+}
+
+// The header with a condition.
+fn with_marks(head: Head, count: u32, condition: Acceptance, needs: [u32; 8]) -> Head
+    ensures { λ r. ⌜ r ≡ withMarks count condition needs head ⌝ }
+{
+    let states = head.states;
+    let start = head.start;
+    let props = head.props;
+    Head {
+        states,
+        start,
+        props,
+        marks: Given::Value(count),
+        hint: head.hint,
+        tool: head.tool,
+        name: head.name,
+        condition,
+        needs,
+    }
+}
+
 // `States: n`.
 fn take_states(text: &[u8], at: usize, head: Head) -> HeadTurn
     requires { ⌜ at ≤ length (now text) ⌝ }
     ensures { λ r. ⌜ Turned (now (text .entry)) at at (statesInt head) r ⌝ }
 {
     let start = head.start;
+    let props = head.props;
+    let marks = head.marks;
     match read_states(text, at, start) {
         Counted::Refused { number, place } => turn_refused(number, place, head),
         Counted::Value { value, next } => {
             let given = Given::Value(value);
-            let mut further = head;
-            further.states = given;
             HeadTurn {
                 turn: Turn::Go { next },
-                head: further,
+                head: with_numbers(head, given, start, props, marks),
             }
         }
     }
@@ -120,15 +160,15 @@ fn take_start(text: &[u8], at: usize, head: Head) -> HeadTurn
     ensures { λ r. ⌜ Turned (now (text .entry)) at at (startInt head) r ⌝ }
 {
     let states = head.states;
+    let props = head.props;
+    let marks = head.marks;
     match read_start(text, at, states) {
         Counted::Refused { number, place } => turn_refused(number, place, head),
         Counted::Value { value, next } => {
             let given = Given::Value(value);
-            let mut further = head;
-            further.start = given;
             HeadTurn {
                 turn: Turn::Go { next },
-                head: further,
+                head: with_numbers(head, states, given, props, marks),
             }
         }
     }
@@ -139,15 +179,16 @@ fn take_props(text: &[u8], at: usize, head: Head) -> HeadTurn
     requires { ⌜ at ≤ length (now text) ⌝ }
     ensures { λ r. ⌜ Turned (now (text .entry)) at at (propsInt head) r ⌝ }
 {
+    let states = head.states;
+    let start = head.start;
+    let marks = head.marks;
     match read_props(text, at) {
         Counted::Refused { number, place } => turn_refused(number, place, head),
         Counted::Value { value, next } => {
             let given = Given::Value(value);
-            let mut further = head;
-            further.props = given;
             HeadTurn {
                 turn: Turn::Go { next },
-                head: further,
+                head: with_numbers(head, states, start, given, marks),
             }
         }
     }
@@ -168,14 +209,9 @@ fn take_marks(text: &[u8], at: usize, head: Head) -> HeadTurn
             condition,
             next,
         } => {
-            let given = Given::Value(marks);
-            let mut further = head;
-            further.marks = given;
-            further.condition = condition;
-            further.needs = needs;
             HeadTurn {
                 turn: Turn::Go { next },
-                head: further,
+                head: with_marks(head, marks, condition, needs),
             }
         }
     }

@@ -11,11 +11,11 @@ mod value;
 use crate::hint::Passed;
 use crate::item::Turn;
 use crate::item::read_item;
-use crate::stub::token_at;
 use hoa_step::Given;
 use hoa_tokens::Header;
 use hoa_tokens::Kind;
 use hoa_tokens::Word;
+use hoa_tokens::token_at;
 use table::Acceptance;
 ghost use mathlib.Core.Path.{_≡_};
 ghost use Prim.Native.Nat.{_≤_};
@@ -201,14 +201,16 @@ fn read_items(text: &[u8], at: usize) -> HeadRead
                 return refused(number, place);
             }
             Turn::Done { next: behind } => {
+                let whole = turned.head;
                 return HeadRead {
                     end: HeadEnd::Body { next: behind },
-                    head: turned.head,
+                    head: whole,
                 };
             }
             Turn::Go { next: further } => {
+                let more = turned.head;
                 next = further;
-                head = turned.head;
+                head = more;
             }
         }
     }

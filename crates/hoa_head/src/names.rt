@@ -1,12 +1,12 @@
 // The INT of AP: and its names. Relies on `token`, and on the crates `hoa_step` and `hoa_tokens`.
 use crate::hint::Passed;
-use crate::stub::alike;
-use crate::stub::read_int;
 use crate::token::is_text;
 use crate::token::look;
 use crate::token::unfinished;
 use crate::value::Counted;
 use hoa_step::IntRead;
+use hoa_step::read_int;
+use hoa_tokens::bytes::alike;
 ghost use mathlib.Core.Path.{_≡_};
 ghost use Prim.Native.Nat.{_≤_, _<_};
 ghost use lib.ListN.{length};

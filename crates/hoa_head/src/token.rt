@@ -1,9 +1,9 @@
 // What a token is where the header stands, and whether it belongs to what stands before it. Relies on the crate `hoa_tokens`.
 use crate::Piece;
-use crate::stub::token_at;
 use hoa_tokens::Header;
 use hoa_tokens::Kind;
 use hoa_tokens::Sign;
+use hoa_tokens::token_at;
 ghost use mathlib.Core.Path.{_≡_};
 ghost use Rattle.hoa_head.specs.Heading.{pieceHeader, pieceSign};
 ghost use Rattle.hoa_head.specs.inner.Pieces.{pieceKind, unfinishedNumber, strayNumber, isJoin, isText, isWord, isHint, Spotted};

@@ -1,10 +1,10 @@
 // The INTs of States: and Start:. Relies on `token`, and on the crate `hoa_step`.
 use crate::hint::Passed;
-use crate::stub::read_int;
 use crate::token::is_join;
 use crate::token::look;
 use hoa_step::Given;
 use hoa_step::IntRead;
+use hoa_step::read_int;
 ghost use mathlib.Core.Path.{_≡_};
 ghost use Prim.Native.Nat.{_≤_};
 ghost use lib.ListN.{length};

@@ -122,6 +122,21 @@ TurnIn text low (turn.Go next) = (low ≤ next) × (next ≤ length text)
 TurnIn text low (turn.Done next) = next ≤ length text
 TurnIn text low (turn.Refused n p) = p ≤ length text
 
+-- a header with these numbers
+abbrev pub withNumbers : Head → Given → Given → Given → Given → Head
+withNumbers h states start props marks =
+    record {
+      states = states;
+      start = start;
+      props = props;
+      marks = marks;
+      hint = h .hint;
+      tool = h .tool;
+      name = h .name;
+      condition = h .condition;
+      needs = h .needs;
+    }
+
 abbrev pub refusedTurn : ℕ → ℕ → Head → HeadTurn
 refusedTurn n p h = record { turn = turn.Refused n p; head = h }
 

@@ -1,41 +1,58 @@
+-- `hint::pass_hints` meets its contract: each turn passes over one token (`hint-goes`), and the first that does not belong does what it does where
+-- an item may begin (`hints-end`). The measure is what is left of the text. Assumes nothing.
+use mathlib.Core.Path.{_∙_, sym}
+use Prim.Native.Nat.{_-_}
+use denote.Ref.{now}
+use lib.ListN.{length}
+use borrow.Author.Tests.{not-false, not-true}
+use Rattle.hoa_head.proofs.Passing.{SoFar, hint-goes, hint-less, hints-end, none-so-far}
 use borrow.Author.Needs.{needs}
-use native.Mathlib.Omega.{arith}
 use Rattle.hoa_head.proofs.hint.pass_hints.Statement.{statement}
 use Rattle.hoa_head.proofs.hint.pass_hints.Tie as tie
-use Rattle.hoa_head.proofs.hint.pass_hints.Reads as reads
-use Rattle.hoa_head.proofs.hint.pass_hints.Lts as lts
-use Rattle.hoa_head.proofs.token.is_hint.Reads as is-hint-reads
-use Rattle.hoa_head.proofs.token.look.Reads as look-reads
 
 abbrev Inv-loop : tie.InvT-loop
-Inv-loop text at ints texts next₀ next = ?
+Inv-loop text at ints texts next₀ next = SoFar text at ints texts next
 
 abbrev μ-loop : tie.MeasureT-loop
-μ-loop text at ints texts next₀ next = ?
+μ-loop text at ints texts next₀ next = length text - next
 
--- src/hint.rt:27:5
 loop-holds : tie.Need-loop-holds Inv-loop μ-loop
-loop-holds c = search needs
+loop-holds c =
+    let at-entry = c .before in
+    none-so-far (now (at-entry .args .text)) (at-entry .args .at) (at-entry .args .ints) (at-entry .args .texts) (at-entry .pre)
 
--- src/hint.rt:28:13
 look-requires : tie.Need-look-requires Inv-loop μ-loop
 look-requires c κs = search needs
 
--- src/hint.rt:30:13
 is-hint-requires : tie.Need-is-hint-requires Inv-loop μ-loop
 is-hint-requires c κs = search needs
 
--- src/hint.rt:31:13
 returns : tie.Need-returns Inv-loop μ-loop
-returns c = search needs
+returns c =
+    let at-test = c .before in
+    let at-look = at-test .before in
+    let at-loop = at-look .before in
+    let at-entry = at-loop .before .before in
+    hints-end (now (at-entry .args .text)) (at-entry .args .at) (at-entry .args .ints) (at-entry .args .texts) (at-loop .loop .next) (at-look .look .result) (at-loop .loop .inv) (at-look .look .ensures)
+    (sym (at-test .is-hint .ensures) ∙ not-true _ (c .if1 .taken))
 
--- src/hint.rt:27:5
 loop-less : tie.Need-loop-less Inv-loop μ-loop
-loop-less c = search needs
+loop-less c =
+    let at-test = c .before in
+    let at-look = at-test .before in
+    let at-loop = at-look .before in
+    let at-entry = at-loop .before .before in
+    hint-less (now (at-entry .args .text)) (at-entry .args .at) (at-entry .args .ints) (at-entry .args .texts) (at-loop .loop .next) (at-look .look .result) (at-loop .loop .inv) (at-look .look .ensures)
+    (sym (at-test .is-hint .ensures) ∙ not-false _ (c .if1 .left))
 
--- src/hint.rt:27:5
 loop-again : tie.Need-loop-again Inv-loop μ-loop
-loop-again c = search needs
+loop-again c =
+    let at-test = c .before in
+    let at-look = at-test .before in
+    let at-loop = at-look .before in
+    let at-entry = at-loop .before .before in
+    hint-goes (now (at-entry .args .text)) (at-entry .args .at) (at-entry .args .ints) (at-entry .args .texts) (at-loop .loop .next) (at-look .look .result) (at-loop .loop .inv) (at-look .look .ensures)
+    (sym (at-test .is-hint .ensures) ∙ not-false _ (c .if1 .left))
 
 pub pass-hints-spec : {M : Type 1} → statement M
 pass-hints-spec =

@@ -1,31 +1,40 @@
-use native.Mathlib.Omega.{arith}
+-- `hint::read_name` meets its contract: a STRING is passed over (`name-passed`), another token refused (`text-stops`). Assumes nothing.
+use denote.Ref.{now}
+use Rattle.hoa_head.proofs.Passing.{name-passed, name-text, text-not, text-stops, text-there}
+use Rattle.hoa_head.specs.Heading.{items, nameText}
 use borrow.Author.Needs.{needs}
 use Rattle.hoa_head.proofs.hint.read_name.Statement.{statement}
 use Rattle.hoa_head.proofs.hint.read_name.Tie as tie
-use Rattle.hoa_head.proofs.hint.read_name.Reads as reads
-use Rattle.hoa_head.proofs.hint.read_name.Lts as lts
-use Rattle.hoa_head.proofs.stub.read_text.Reads as read-text-reads
 
--- src/hint.rt:59:11
 read-text-requires : tie.Need-read-text-requires
 read-text-requires c κs = search needs
 
--- src/hint.rt:60:29
 enum-known-number : tie.Need-enum-known-number
 enum-known-number c = search needs
 
--- src/hint.rt:61:28
 enum-known-next : tie.Need-enum-known-next
 enum-known-next c = search needs
 
--- src/hint.rt:55:1
 returns : tie.Need-returns
-returns c = search needs
+returns c =
+    let at-arm = c .before in
+    let at-read = at-arm .before .before in
+    let at-entry = at-read .before .before in
+    text-stops (now (at-entry .args .text)) (at-entry .args .at) _ _ nameText items items name-text (text-not (now (at-entry .args .text)) (at-entry .args .at) _ (at-arm .number .given .1) (at-read .read-text .ensures)) (at-entry .pre)
 
--- src/hint.rt:55:1
 returns-2 : tie.Need-returns-2
-returns-2 c = search needs
+returns-2 c =
+    let at-arm = c .before in
+    let at-read = at-arm .before .before in
+    let at-entry = at-read .before .before in
+    name-passed (now (at-entry .args .text)) (at-entry .args .at) _ (text-there (now (at-entry .args .text)) (at-entry .args .at) _ (at-arm .next .given .1) (at-read .read-text .ensures))
 
 pub read-name-spec : {M : Type 1} → statement M
 read-name-spec =
-    tie.close (tie.spec read-text-requires enum-known-number enum-known-next returns returns-2)
+    tie.close
+    (tie.spec
+    read-text-requires
+    enum-known-number
+    enum-known-next
+    returns
+    returns-2)

@@ -1,44 +1,52 @@
-use native.Mathlib.Omega.{arith}
+-- `hint::read_tool` meets its contract: behind the first STRING a second one (`tool-second`) or what may stand behind an item (`tool-alone`); another
+-- token than a STRING is refused (`text-stops`). Assumes nothing.
+use mathlib.Core.Path.{_∙_, sym}
+use denote.Ref.{now}
+use Rattle.hoa_head.proofs.Passing.{text-not, text-stops, text-there, tool-alone, tool-second, tool-text}
+use Rattle.hoa_head.specs.Heading.{items, toolMore, toolText}
 use borrow.Author.Needs.{needs}
 use Rattle.hoa_head.proofs.hint.read_tool.Statement.{statement}
 use Rattle.hoa_head.proofs.hint.read_tool.Tie as tie
-use Rattle.hoa_head.proofs.hint.read_tool.Reads as reads
-use Rattle.hoa_head.proofs.hint.read_tool.Lts as lts
-use Rattle.hoa_head.proofs.stub.read_text.Reads as read-text-reads
-use Rattle.hoa_head.proofs.token.is_text.Reads as is-text-reads
-use Rattle.hoa_head.proofs.token.look.Reads as look-reads
 
--- src/hint.rt:70:11
 read-text-requires : tie.Need-read-text-requires
 read-text-requires c κs = search needs
 
--- src/hint.rt:71:29
 enum-known-number : tie.Need-enum-known-number
 enum-known-number c = search needs
 
--- src/hint.rt:72:28
 enum-known-next : tie.Need-enum-known-next
 enum-known-next c = search needs
 
--- src/hint.rt:73:17
 look-requires : tie.Need-look-requires
 look-requires c κs = search needs
 
--- src/hint.rt:75:16
 is-text-requires : tie.Need-is-text-requires
 is-text-requires c κs = search needs
 
--- src/hint.rt:76:17
 returns : tie.Need-returns
-returns c = search needs
+returns c =
+    let at-test = c .before in
+    let at-look = at-test .before in
+    let at-arm = at-look .before .before in
+    let at-read = at-arm .before .before in
+    let at-entry = at-read .before .before in
+    tool-second (now (at-entry .args .text)) (at-entry .args .at) _ (text-there (now (at-entry .args .text)) (at-entry .args .at) _ (at-arm .next .given .1) (at-read .read-text .ensures)) (at-look .look .result) (at-look .look .ensures) (sym (at-test .is-text .ensures) ∙ c .if1 .taken)
 
--- src/hint.rt:66:1
 returns-2 : tie.Need-returns-2
-returns-2 c = search needs
+returns-2 c =
+    let at-arm = c .before in
+    let at-read = at-arm .before .before in
+    let at-entry = at-read .before .before in
+    text-stops (now (at-entry .args .text)) (at-entry .args .at) _ _ toolText items toolMore tool-text (text-not (now (at-entry .args .text)) (at-entry .args .at) _ (at-arm .number .given .1) (at-read .read-text .ensures)) (at-entry .pre)
 
--- src/hint.rt:66:1
 returns-3 : tie.Need-returns-3
-returns-3 c = search needs
+returns-3 c =
+    let at-test = c .before in
+    let at-look = at-test .before in
+    let at-arm = at-look .before .before in
+    let at-read = at-arm .before .before in
+    let at-entry = at-read .before .before in
+    tool-alone (now (at-entry .args .text)) (at-entry .args .at) _ (text-there (now (at-entry .args .text)) (at-entry .args .at) _ (at-arm .next .given .1) (at-read .read-text .ensures)) (at-look .look .result) (at-look .look .ensures) (sym (at-test .is-text .ensures) ∙ c .if1 .left)
 
 pub read-tool-spec : {M : Type 1} → statement M
 read-tool-spec =

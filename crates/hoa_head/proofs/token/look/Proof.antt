@@ -1,23 +1,27 @@
-use native.Mathlib.Omega.{arith}
+-- `token::look` meets its contract: the token that is found, by its kind (`spotted`). Assumes nothing.
+use mathlib.Core.Path.{refl}
+use denote.Ref.{now}
+use Rattle.hoa_head.proofs.Spots.{spotted}
 use borrow.Author.Needs.{needs}
 use Rattle.hoa_head.proofs.token.look.Statement.{statement}
 use Rattle.hoa_head.proofs.token.look.Tie as tie
-use Rattle.hoa_head.proofs.token.look.Reads as reads
-use Rattle.hoa_head.proofs.token.look.Lts as lts
-use Rattle.hoa_head.proofs.stub.token_at.Reads as token-at-reads
-use Rattle.hoa_head.proofs.token.piece_of.Reads as piece-of-reads
 
--- src/token.rt:79:9
 token-at-requires : tie.Need-token-at-requires
 token-at-requires c κs = search needs
 
--- src/token.rt:82:16
 piece-of-requires : tie.Need-piece-of-requires
 piece-of-requires c κs = search needs
 
--- src/token.rt:76:1
 returns : tie.Need-returns
-returns c = search needs
+returns c =
+    let at-found = c .before in
+    let at-entry = at-found .before .before in
+    spotted (now (at-entry .args .text)) (at-entry .args .at) (at-found .token-at .result) _ (at-found .token-at .ensures) (c .piece-of .ensures) refl refl
 
 pub look-spec : {M : Type 1} → statement M
-look-spec = tie.close (tie.spec token-at-requires piece-of-requires returns)
+look-spec =
+    tie.close
+    (tie.spec
+    token-at-requires
+    piece-of-requires
+    returns)

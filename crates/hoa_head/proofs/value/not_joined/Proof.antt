@@ -1,27 +1,37 @@
-use native.Mathlib.Omega.{arith}
+-- `value::not_joined` meets its contract: `&` is refused (`joined`), and any other token does what it does where an item may begin (`not-joined`).
+-- Assumes nothing.
+use mathlib.Core.Path.{_∙_, sym}
+use denote.Ref.{now}
+use Rattle.hoa_head.proofs.Values.{joined, not-joined}
 use borrow.Author.Needs.{needs}
 use Rattle.hoa_head.proofs.value.not_joined.Statement.{statement}
 use Rattle.hoa_head.proofs.value.not_joined.Tie as tie
-use Rattle.hoa_head.proofs.value.not_joined.Reads as reads
-use Rattle.hoa_head.proofs.value.not_joined.Lts as lts
-use Rattle.hoa_head.proofs.token.is_join.Reads as is-join-reads
-use Rattle.hoa_head.proofs.token.look.Reads as look-reads
 
--- src/value.rt:104:9
 look-requires : tie.Need-look-requires
 look-requires c κs = search needs
 
--- src/value.rt:106:8
 is-join-requires : tie.Need-is-join-requires
 is-join-requires c κs = search needs
 
--- src/value.rt:107:9
 returns : tie.Need-returns
-returns c = search needs
+returns c =
+    let at-test = c .before in
+    let at-look = at-test .before in
+    let at-entry = at-look .before .before in
+    joined (now (at-entry .args .text)) (at-entry .args .at) (at-look .look .result) (at-look .look .ensures) (sym (at-test .is-join .ensures) ∙ c .if1 .taken) (at-entry .pre)
 
--- src/value.rt:100:1
 returns-2 : tie.Need-returns-2
-returns-2 c = search needs
+returns-2 c =
+    let at-test = c .before in
+    let at-look = at-test .before in
+    let at-entry = at-look .before .before in
+    not-joined (now (at-entry .args .text)) (at-entry .args .at) (at-look .look .result) (at-look .look .ensures) (sym (at-test .is-join .ensures) ∙ c .if1 .left) (at-entry .pre)
 
 pub not-joined-spec : {M : Type 1} → statement M
-not-joined-spec = tie.close (tie.spec look-requires is-join-requires returns returns-2)
+not-joined-spec =
+    tie.close
+    (tie.spec
+    look-requires
+    is-join-requires
+    returns
+    returns-2)

@@ -1,56 +1,75 @@
-use native.Mathlib.Omega.{arith}
+-- `value::read_start` meets its contract: another token than an INT is refused (`start-stops`), an INT at fault (`start-wrong`), and an `&` behind it
+-- (`start-joined`); else an item may begin (`start-over`). Assumes nothing.
+use mathlib.Core.Path.{_∙_, sym}
+use denote.Ref.{now}
+use Rattle.hoa_head.proofs.Values.{int-not, int-there, not-joined, start-joined, start-over, start-stops, start-wrong}
 use borrow.Author.Needs.{needs}
 use Rattle.hoa_head.proofs.value.read_start.Statement.{statement}
 use Rattle.hoa_head.proofs.value.read_start.Tie as tie
-use Rattle.hoa_head.proofs.value.read_start.Reads as reads
-use Rattle.hoa_head.proofs.value.read_start.Lts as lts
-use Rattle.hoa_head.proofs.stub.read_int.Reads as read-int-reads
-use Rattle.hoa_head.proofs.value.not_joined.Reads as not-joined-reads
-use Rattle.hoa_head.proofs.value.start_fault.Reads as start-fault-reads
 
--- src/value.rt:120:11
 read-int-requires : tie.Need-read-int-requires
 read-int-requires c κs = search needs
 
--- src/value.rt:121:28
 enum-known-number : tie.Need-enum-known-number
 enum-known-number c = search needs
 
--- src/value.rt:122:26
 enum-known-value : tie.Need-enum-known-value
 enum-known-value c = search needs
 
--- src/value.rt:123:17
 start-fault-requires : tie.Need-start-fault-requires
 start-fault-requires c κs = search needs
 
--- src/value.rt:125:17
 returns : tie.Need-returns
-returns c = search needs
+returns c =
+    let at-fault = c .before in
+    let at-arm = at-fault .before .before in
+    let at-read = at-arm .before .before in
+    let at-entry = at-read .before .before in
+    start-wrong (now (at-entry .args .text)) (at-entry .args .at) _ _ _ (at-entry .args .states) (int-there (now (at-entry .args .text)) (at-entry .args .at) _ (at-arm .value .given .1) (at-read .read-int .ensures)) _ (at-fault .start-fault .ensures) (c .if1 .taken)
 
--- src/value.rt:130:19
 not-joined-requires : tie.Need-not-joined-requires
-not-joined-requires c κs = search needs
+not-joined-requires c κs =
+    let at-arm = c .before .before .before in
+    let at-read = at-arm .before .before in
+    let at-entry = at-read .before .before in
+    int-there (now (at-entry .args .text)) (at-entry .args .at) _ (at-arm .value .given .1) (at-read .read-int .ensures) .within
 
--- src/value.rt:131:35
 enum-known-number-2 : tie.Need-enum-known-number-2
 enum-known-number-2 c = search needs
 
--- src/value.rt:132:34
 enum-known-next : tie.Need-enum-known-next
 enum-known-next c = search needs
 
--- src/value.rt:116:1
 returns-2 : tie.Need-returns-2
-returns-2 c = search needs
+returns-2 c =
+    let at-arm = c .before in
+    let at-read = at-arm .before .before in
+    let at-entry = at-read .before .before in
+    start-stops (now (at-entry .args .text)) (at-entry .args .at) _ _ (at-entry .args .states) (int-not (now (at-entry .args .text)) (at-entry .args .at) _ (at-arm .number .given .1) (at-read .read-int .ensures)) (at-entry .pre)
 
--- src/value.rt:116:1
 returns-3 : tie.Need-returns-3
-returns-3 c = search needs
+returns-3 c =
+    let at-behind = c .before in
+    let at-call = at-behind .before .before in
+    let at-test = at-call .before in
+    let at-fault = at-test .before in
+    let at-arm = at-fault .before .before in
+    let at-read = at-arm .before .before in
+    let at-entry = at-read .before .before in
+    start-joined (now (at-entry .args .text)) (at-entry .args .at) _ _ _ (at-entry .args .states) (int-there (now (at-entry .args .text)) (at-entry .args .at) _ (at-arm .value .given .1) (at-read .read-int .ensures)) _ _
+    (sym (at-fault .start-fault .ensures) ∙ at-test .if1 .left) (rw (at-behind .number2 .given .1) at (at-call .not-joined .ensures))
 
--- src/value.rt:116:1
 returns-4 : tie.Need-returns-4
-returns-4 c = search needs
+returns-4 c =
+    let at-behind = c .before in
+    let at-call = at-behind .before .before in
+    let at-test = at-call .before in
+    let at-fault = at-test .before in
+    let at-arm = at-fault .before .before in
+    let at-read = at-arm .before .before in
+    let at-entry = at-read .before .before in
+    start-over (now (at-entry .args .text)) (at-entry .args .at) _ _ _ (at-entry .args .states) (int-there (now (at-entry .args .text)) (at-entry .args .at) _ (at-arm .value .given .1) (at-read .read-int .ensures)) _
+    (sym (at-fault .start-fault .ensures) ∙ at-test .if1 .left) (rw (at-behind .next .given .1) at (at-call .not-joined .ensures))
 
 pub read-start-spec : {M : Type 1} → statement M
 read-start-spec =

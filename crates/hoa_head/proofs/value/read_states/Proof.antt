@@ -1,40 +1,41 @@
-use native.Mathlib.Omega.{arith}
+-- `value::read_states` meets its contract: another token than an INT is refused (`states-stops`), and an INT by its fault (`states-goes`).
+-- Assumes nothing.
+use denote.Ref.{now}
+use Rattle.hoa_head.proofs.Values.{int-not, int-there, states-goes, states-stops}
 use borrow.Author.Needs.{needs}
 use Rattle.hoa_head.proofs.value.read_states.Statement.{statement}
 use Rattle.hoa_head.proofs.value.read_states.Tie as tie
-use Rattle.hoa_head.proofs.value.read_states.Reads as reads
-use Rattle.hoa_head.proofs.value.read_states.Lts as lts
-use Rattle.hoa_head.proofs.stub.read_int.Reads as read-int-reads
-use Rattle.hoa_head.proofs.value.states_fault.Reads as states-fault-reads
-use Rattle.hoa_head.proofs.value.unless_fault.Reads as unless-fault-reads
 
--- src/value.rt:90:11
 read-int-requires : tie.Need-read-int-requires
 read-int-requires c κs = search needs
 
--- src/value.rt:91:28
 enum-known-number : tie.Need-enum-known-number
 enum-known-number c = search needs
 
--- src/value.rt:92:26
 enum-known-value : tie.Need-enum-known-value
 enum-known-value c = search needs
 
--- src/value.rt:93:17
 states-fault-requires : tie.Need-states-fault-requires
 states-fault-requires c κs = search needs
 
--- src/value.rt:94:13
 unless-fault-requires : tie.Need-unless-fault-requires
 unless-fault-requires c κs = search needs
 
--- src/value.rt:86:1
 returns : tie.Need-returns
-returns c = search needs
+returns c =
+    let at-arm = c .before in
+    let at-read = at-arm .before .before in
+    let at-entry = at-read .before .before in
+    states-stops (now (at-entry .args .text)) (at-entry .args .at) _ _ (at-entry .args .start) (int-not (now (at-entry .args .text)) (at-entry .args .at) _ (at-arm .number .given .1) (at-read .read-int .ensures)) (at-entry .pre)
 
--- src/value.rt:86:1
 returns-2 : tie.Need-returns-2
-returns-2 c = search needs
+returns-2 c =
+    let at-fault = c .before in
+    let at-arm = at-fault .before .before in
+    let at-read = at-arm .before .before in
+    let at-entry = at-read .before .before in
+    states-goes (now (at-entry .args .text)) (at-entry .args .at) _ _ _ (at-entry .args .start) _ (int-there (now (at-entry .args .text)) (at-entry .args .at) _ (at-arm .value .given .1) (at-read .read-int .ensures))
+    (rw (at-fault .states-fault .ensures) at (c .unless-fault .ensures))
 
 pub read-states-spec : {M : Type 1} → statement M
 read-states-spec =

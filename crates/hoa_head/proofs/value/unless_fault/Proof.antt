@@ -1,17 +1,17 @@
-use borrow.Author.Needs.{needs}
-use native.Mathlib.Omega.{arith}
+-- `value::unless_fault` meets its contract: by its test. Assumes nothing.
+use borrow.Author.Tests.{eq-eqb, ne-eqb}
 use Rattle.hoa_head.proofs.value.unless_fault.Statement.{statement}
 use Rattle.hoa_head.proofs.value.unless_fault.Tie as tie
-use Rattle.hoa_head.proofs.value.unless_fault.Reads as reads
-use Rattle.hoa_head.proofs.value.unless_fault.Lts as lts
 
--- src/value.rt:28:9
 returns : tie.Need-returns
-returns c = search needs
+returns c = simp (eq-eqb _ _ (c .if1 .taken))
 
--- src/value.rt:24:1
 returns-2 : tie.Need-returns-2
-returns-2 c = search needs
+returns-2 c = simp (ne-eqb _ _ (c .if1 .left))
 
 pub unless-fault-spec : {M : Type 1} → statement M
-unless-fault-spec = tie.close (tie.spec returns returns-2)
+unless-fault-spec =
+    tie.close
+    (tie.spec
+    returns
+    returns-2)

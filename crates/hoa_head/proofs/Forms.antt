@@ -13,6 +13,10 @@ use Rattle.hoa_tokens.specs.Stream.{Placed, placed, tokensAt}
 use Rattle.hoa_formula.specs.Formulas as formula
 use Rattle.hoa_formula.specs.Standard.{FormulaMeaning, standard, short}
 use Rattle.hoa_formula.specs.Formulas.{FormulaState, formulaBegin, formulaStep, formulaRun, FormulaStep, FormulaEnd, onward}
+use Rattle.hoa_formula.specs.declared.FormulaRead.{FormulaRead}
+use Rattle.hoa_formula.specs.declared.FormulaFound.{FormulaFound}
+use Rattle.hoa_formula.specs.declared.FormulaFound.the-variants as found-is
+use Rattle.hoa_formula.specs.Reading.{foundSays, foundPlace, FormulaAt}
 use Rattle.hoa_step.specs.Machine.{Step, go, wrong, End, wrongAt, cut, endBy, run, wantsInt}
 use Rattle.hoa_step.specs.Wanted.{Next, Faulty, intFault}
 use Rattle.hoa_step.proofs.Runs.{first-goes, first-wrong, int-wrong, faulty-within}
@@ -86,24 +90,32 @@ module _ (text : List ℕ) (at c p q : ℕ) (n : Next text at p q (int c)) where
       first-goes headStep text at (n .is) (inFormula c (formulaBegin c) h) (rw (le-ltb mostMarks c l))
       ∙ formula-same c h (tokensAt text q) (formulaBegin c)
 
-  pub formula-stops : (r : Formed) (k m : ℕ) → r .end ≡ formed.Refused k m → c ≤ mostMarks
-      → formulaRun c (formulaBegin c) (tokensAt text q) ≡ formula.wrongAt k m → m ≤ length text → MarksRead text at r
-  formula-stops r k m e l f w = record { says = λ h. rw e (in-formula h l ∙ rw f); stays = rw e w }
+  module _ (r : Formed) (x : FormulaRead) (f : FormulaAt text q c x) (l : c ≤ mostMarks) where
+    -- what is found decides
+    found : (h : Head) (y : FormulaFound) → x .found ≡ y → run headStep (tokensAt text at) (marksInt h) ≡ formulaThen c h (foundSays text (x .needs) y)
+    found h y e = in-formula h l ∙ ap (formulaThen c h) (f .is ∙ ap (foundSays text (x .needs)) e)
 
-  pub formula-short : (r : Formed) (k next : ℕ) (spot : Spot) → Spotted text next spot → r .end ≡ formed.Refused k (spot .first)
-      → k ≡ unfinishedNumber (spot .piece) → c ≤ mostMarks
-      → formulaRun c (formulaBegin c) (tokensAt text q) ≡ formula.overAt short (tokensAt text next) → next ≤ length text → MarksRead text at r
-  formula-short r k next spot s e u l f w =
-      record {
-        says = λ h. rw (e, u) (in-formula h l ∙ ap (formulaThen c h) f ∙ behind-short c h text next spot s);
-        stays = rw e (s .within w);
-      }
+    found-in : (y : FormulaFound) → x .found ≡ y → (q ≤ foundPlace y) × (foundPlace y ≤ length text)
+    found-in y e =
+        let i : (q ≤ foundPlace (x .found)) × (foundPlace (x .found) ≤ length text) = (f .behind-at, f .within (n .within)) in
+        rw e at i
 
-  pub formula-whole : (r : Formed) (condition : Acceptance) (next : ℕ) → r .end ≡ formed.Formula c condition next → c ≤ mostMarks
-      → formulaRun c (formulaBegin c) (tokensAt text q) ≡ formula.overAt (standard condition (r .needs)) (tokensAt text next)
-      → q ≤ next → next ≤ length text → MarksRead text at r
-  formula-whole r condition next e l f a w =
-      record {
-        says = λ h. rw e (in-formula h l ∙ ap (formulaThen c h) f ∙ behind-standard c h condition (r .needs) (tokensAt text next));
-        stays = rw e (omega (arith, n .behind-at, n .takes), w);
-      }
+    pub formula-stops : (k m : ℕ) → x .found ≡ found-is.Refused k m → r .end ≡ formed.Refused k m → MarksRead text at r
+    formula-stops k m e w = record { says = λ h. rw w (found h (found-is.Refused k m) e); stays = rw w (found-in (found-is.Refused k m) e .1) }
+
+    pub formula-short : (k next : ℕ) (spot : Spot) → x .found ≡ found-is.Short next → Spotted text next spot → k ≡ unfinishedNumber (spot .piece)
+        → r .end ≡ formed.Refused k (spot .first) → MarksRead text at r
+    formula-short k next spot e s u w =
+        record {
+          says = λ h. rw (w, u) (found h (found-is.Short next) e ∙ behind-short c h text next spot s);
+          stays = rw w (s .within (found-in (found-is.Short next) e .1));
+        }
+
+    pub formula-whole : (condition : Acceptance) (next : ℕ) → x .found ≡ found-is.Standard condition next → r .needs ≡ x .needs
+        → r .end ≡ formed.Formula c condition next → MarksRead text at r
+    formula-whole condition next e v w =
+        let i = found-in (found-is.Standard condition next) e in
+        record {
+          says = λ h. rw (w, v) (found h (found-is.Standard condition next) e ∙ behind-standard c h condition (x .needs) (tokensAt text next));
+          stays = rw w (omega (arith, n .behind-at, n .takes, i .0), i .1);
+        }

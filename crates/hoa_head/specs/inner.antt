@@ -4,4 +4,3 @@ pub mod Pieces
 pub mod Turns
 -- Names: the names of AP:, where they stand in the text.
 pub mod Names
-pub mod Stub

@@ -1,8 +1,8 @@
 // The INT of Acceptance: and its formula. Relies on `token`, and on the crates `hoa_step` and `hoa_formula`.
-use crate::stub::FormulaFound;
-use crate::stub::read_formula;
 use crate::token::look;
 use crate::token::unfinished;
+use hoa_formula::FormulaFound;
+use hoa_formula::read_formula;
 use hoa_step::IntRead;
 use hoa_step::read_int;
 use table::Acceptance;

@@ -4,7 +4,6 @@ mod formed;
 mod hint;
 mod item;
 mod names;
-mod stub;
 mod token;
 mod value;
 

@@ -1,62 +1,74 @@
-use borrow.Author.Needs.{needs}
+-- `read_items` meets its contract: each turn reads one item (`items-go`), until `--BODY--` (`items-done`) or a refusal (`items-stop`). The measure is what is
+-- left of the text. Assumes nothing.
+use Prim.Native.Nat.{_-_}
+use denote.Ref.{now}
+use lib.ListN.{length}
+use Rattle.hoa_head.proofs.Items.{Reading, items-done, items-go, items-less, items-stop, reading-none}
 use native.Mathlib.Omega.{arith}
+use borrow.Author.Needs.{needs}
 use Rattle.hoa_head.proofs.read_items.Statement.{statement}
 use Rattle.hoa_head.proofs.read_items.Tie as tie
-use Rattle.hoa_head.proofs.read_items.Reads as reads
-use Rattle.hoa_head.proofs.read_items.Lts as lts
-use Rattle.hoa_head.proofs.blank_head.Reads as blank-head-reads
-use Rattle.hoa_head.proofs.item.read_item.Reads as read-item-reads
-use Rattle.hoa_head.proofs.refused.Reads as refused-reads
 
 abbrev Inv-loop : tie.InvT-loop
-Inv-loop text at head₀ next₀ head next = ?
+Inv-loop text at head₀ next₀ head next = Reading text at head next
 
 abbrev μ-loop : tie.MeasureT-loop
-μ-loop text at head₀ next₀ head next = ?
+μ-loop text at head₀ next₀ head next = length text - next
 
--- src/lib.rt:194:9
 blank-head-requires : tie.Need-blank-head-requires Inv-loop μ-loop
 blank-head-requires c κs = search needs
 
--- src/lib.rt:196:5
 loop-holds : tie.Need-loop-holds Inv-loop μ-loop
-loop-holds c = search needs
+loop-holds c =
+    let at-entry = c .before .before in
+    reading-none (now (at-entry .args .text)) (at-entry .args .at) _ (c .blank-head .ensures) (at-entry .pre)
 
--- src/lib.rt:197:13
 read-item-requires : tie.Need-read-item-requires Inv-loop μ-loop
-read-item-requires c κs = search needs
+read-item-requires c κs = c .loop .inv .within
 
--- src/lib.rt:200:29
 enum-known-turn : tie.Need-enum-known-turn Inv-loop μ-loop
 enum-known-turn c = search needs
 
--- src/lib.rt:201:17
 refused-requires : tie.Need-refused-requires Inv-loop μ-loop
 refused-requires c κs = search needs
 
--- src/lib.rt:201:17
 returns : tie.Need-returns Inv-loop μ-loop
-returns c = search needs
+returns c =
+    let at-arm = c .before .before in
+    let at-item = at-arm .before .before in
+    let at-loop = at-item .before in
+    let at-entry = at-loop .before .before .before in
+    items-stop (now (at-entry .args .text)) (at-entry .args .at) (at-loop .loop .head) (at-loop .loop .next) (at-loop .loop .inv) (at-item .read-item .result) (at-item .read-item .ensures) _ _ _ (at-arm .turn .given .1) (c .refused .ensures)
 
--- src/lib.rt:203:32
 enum-known-turn-2 : tie.Need-enum-known-turn-2 Inv-loop μ-loop
 enum-known-turn-2 c = search needs
 
--- src/lib.rt:205:17
 returns-2 : tie.Need-returns-2 Inv-loop μ-loop
-returns-2 c = search needs
+returns-2 c =
+    let at-arm = c .before .before in
+    let at-item = at-arm .before .before in
+    let at-loop = at-item .before in
+    let at-entry = at-loop .before .before .before in
+    items-done (now (at-entry .args .text)) (at-entry .args .at) (at-loop .loop .head) (at-loop .loop .next) (at-loop .loop .inv) (at-item .read-item .result) (at-item .read-item .ensures) _ (at-arm .turn2 .given .1)
 
--- src/lib.rt:210:30
 enum-known-turn-3 : tie.Need-enum-known-turn-3 Inv-loop μ-loop
 enum-known-turn-3 c = search needs
 
--- src/lib.rt:196:5
 loop-less : tie.Need-loop-less Inv-loop μ-loop
-loop-less c = search needs
+loop-less c =
+    let at-arm = c .before .before in
+    let at-item = at-arm .before .before in
+    let at-loop = at-item .before in
+    let at-entry = at-loop .before .before .before in
+    omega (arith, items-less (now (at-entry .args .text)) (at-entry .args .at) (at-loop .loop .head) (at-loop .loop .next) (at-loop .loop .inv) (at-item .read-item .result) (at-item .read-item .ensures) _ (at-arm .turn3 .given .1))
 
--- src/lib.rt:196:5
 loop-again : tie.Need-loop-again Inv-loop μ-loop
-loop-again c = search needs
+loop-again c =
+    let at-arm = c .before .before in
+    let at-item = at-arm .before .before in
+    let at-loop = at-item .before in
+    let at-entry = at-loop .before .before .before in
+    items-go (now (at-entry .args .text)) (at-entry .args .at) (at-loop .loop .head) (at-loop .loop .next) (at-loop .loop .inv) (at-item .read-item .result) (at-item .read-item .ensures) _ (at-arm .turn3 .given .1)
 
 pub read-items-spec : {M : Type 1} → statement M
 read-items-spec =

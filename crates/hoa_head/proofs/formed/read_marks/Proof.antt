@@ -1,7 +1,8 @@
 -- `formed::read_marks` meets its contract: another token than an INT is refused (`marks-stop`), one above the limit (`marks-many`), a formula that is
 -- refused (`formula-stops`) or too short (`formula-short`); else an item may begin (`formula-whole`). Assumes nothing.
+use mathlib.Core.Path.{refl}
 use denote.Ref.{now}
-use Rattle.hoa_head.proofs.Forms.{marks-many, marks-stop}
+use Rattle.hoa_head.proofs.Forms.{formula-short, formula-stops, formula-whole, marks-many, marks-stop}
 use Rattle.hoa_head.proofs.Values.{int-not, int-there}
 use borrow.Author.Needs.{needs}
 use Rattle.hoa_head.proofs.formed.read_marks.Statement.{statement}
@@ -31,7 +32,7 @@ returns c =
     marks-many (now (at-entry .args .text)) (at-entry .args .at) _ _ _ (int-there (now (at-entry .args .text)) (at-entry .args .at) _ (at-arm .marks .given .1) (at-read .read-int .ensures)) _ (c .formed-refused2 .ensures) (at-test .if1 .taken)
 
 read-formula-requires : tie.Need-read-formula-requires
-read-formula-requires c κs = ?
+read-formula-requires c κs = search needs
 
 enum-known-found : tie.Need-enum-known-found
 enum-known-found c = search needs
@@ -62,13 +63,36 @@ returns-2 c =
     marks-stop (now (at-entry .args .text)) (at-entry .args .at) _ _ _ (c .formed-refused .ensures) (int-not (now (at-entry .args .text)) (at-entry .args .at) _ (at-arm .number .given .1) (at-read .read-int .ensures)) (at-entry .pre)
 
 returns-3 : tie.Need-returns-3
-returns-3 c = ?
+returns-3 c =
+    let at-found = c .before .before in
+    let at-formula = at-found .before .before .before in
+    let at-test = at-formula .before in
+    let at-arm = at-test .before .before in
+    let at-read = at-arm .before .before in
+    let at-entry = at-read .before .before in
+    formula-stops (now (at-entry .args .text)) (at-entry .args .at) _ _ _ (int-there (now (at-entry .args .text)) (at-entry .args .at) _ (at-arm .marks .given .1) (at-read .read-int .ensures)) _ (at-formula .read-formula .result) (at-formula .read-formula .ensures) (at-test .if1 .left) _ _ (at-found .found .given .1) (c .formed-refused3 .ensures)
 
 returns-4 : tie.Need-returns-4
-returns-4 c = ?
+returns-4 c =
+    let at-number = c .before in
+    let at-look = at-number .before in
+    let at-found = at-look .before .before in
+    let at-formula = at-found .before .before .before in
+    let at-test = at-formula .before in
+    let at-arm = at-test .before .before in
+    let at-read = at-arm .before .before in
+    let at-entry = at-read .before .before in
+    formula-short (now (at-entry .args .text)) (at-entry .args .at) _ _ _ (int-there (now (at-entry .args .text)) (at-entry .args .at) _ (at-arm .marks .given .1) (at-read .read-int .ensures)) _ (at-formula .read-formula .result) (at-formula .read-formula .ensures) (at-test .if1 .left) _ _ (at-look .look .result) (at-found .found2 .given .1) (at-look .look .ensures) (at-number .unfinished .ensures) (c .formed-refused4 .ensures)
 
 returns-5 : tie.Need-returns-5
-returns-5 c = ?
+returns-5 c =
+    let at-found = c .before in
+    let at-formula = at-found .before .before .before in
+    let at-test = at-formula .before in
+    let at-arm = at-test .before .before in
+    let at-read = at-arm .before .before in
+    let at-entry = at-read .before .before in
+    formula-whole (now (at-entry .args .text)) (at-entry .args .at) _ _ _ (int-there (now (at-entry .args .text)) (at-entry .args .at) _ (at-arm .marks .given .1) (at-read .read-int .ensures)) _ (at-formula .read-formula .result) (at-formula .read-formula .ensures) (at-test .if1 .left) _ _ (at-found .found3 .given .1) refl refl
 
 pub read-marks-spec : {M : Type 1} → statement M
 read-marks-spec =

@@ -1,40 +1,38 @@
-use native.Mathlib.Omega.{arith}
+-- `item::take_marks` meets its contract: by what `read_marks` promises (`marks-stop`, `marks-go`). Assumes nothing.
+use denote.Ref.{now}
+use Rattle.hoa_head.proofs.Items.{marks-go, marks-stop}
 use borrow.Author.Needs.{needs}
 use Rattle.hoa_head.proofs.item.take_marks.Statement.{statement}
 use Rattle.hoa_head.proofs.item.take_marks.Tie as tie
-use Rattle.hoa_head.proofs.item.take_marks.Reads as reads
-use Rattle.hoa_head.proofs.item.take_marks.Lts as lts
-use Rattle.hoa_head.proofs.formed.read_marks.Reads as read-marks-reads
-use Rattle.hoa_head.proofs.item.turn_refused.Reads as turn-refused-reads
-use Rattle.hoa_head.proofs.item.with_marks.Reads as with-marks-reads
 
--- src/item.rt:202:9
 read-marks-requires : tie.Need-read-marks-requires
 read-marks-requires c κs = search needs
 
--- src/item.rt:206:30
 enum-known-end : tie.Need-enum-known-end
 enum-known-end c = search needs
 
--- src/item.rt:206:49
 turn-refused-requires : tie.Need-turn-refused-requires
 turn-refused-requires c κs = search needs
 
--- src/item.rt:208:13
 enum-known-end-2 : tie.Need-enum-known-end-2
 enum-known-end-2 c = search needs
 
--- src/item.rt:214:23
 with-marks-requires : tie.Need-with-marks-requires
 with-marks-requires c κs = search needs
 
--- src/item.rt:198:1
 returns : tie.Need-returns
-returns c = search needs
+returns c =
+    let at-arm = c .before .before in
+    let at-read = at-arm .before .before .before in
+    let at-entry = at-read .before .before in
+    marks-stop (now (at-entry .args .text)) (at-entry .args .at) (at-entry .args .head) (at-read .read-marks .result) (at-read .read-marks .ensures) _ _ _ (at-arm .end .given .1) (c .turn-refused .ensures)
 
--- src/item.rt:198:1
 returns-2 : tie.Need-returns-2
-returns-2 c = search needs
+returns-2 c =
+    let at-arm = c .before .before in
+    let at-read = at-arm .before .before .before in
+    let at-entry = at-read .before .before in
+    rw (c .with-marks .ensures) (marks-go (now (at-entry .args .text)) (at-entry .args .at) (at-entry .args .head) (at-read .read-marks .result) (at-read .read-marks .ensures) _ _ _ (at-arm .end2 .given .1))
 
 pub take-marks-spec : {M : Type 1} → statement M
 take-marks-spec =

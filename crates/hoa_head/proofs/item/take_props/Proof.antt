@@ -1,40 +1,38 @@
-use native.Mathlib.Omega.{arith}
+-- `item::take_props` meets its contract: by what `read_props` promises (`props-stop`, `props-go`). Assumes nothing.
+use denote.Ref.{now}
+use Rattle.hoa_head.proofs.Items.{props-go, props-stop}
 use borrow.Author.Needs.{needs}
 use Rattle.hoa_head.proofs.item.take_props.Statement.{statement}
 use Rattle.hoa_head.proofs.item.take_props.Tie as tie
-use Rattle.hoa_head.proofs.item.take_props.Reads as reads
-use Rattle.hoa_head.proofs.item.take_props.Lts as lts
-use Rattle.hoa_head.proofs.item.turn_refused.Reads as turn-refused-reads
-use Rattle.hoa_head.proofs.item.with_numbers.Reads as with-numbers-reads
-use Rattle.hoa_head.proofs.names.read_props.Reads as read-props-reads
 
--- src/item.rt:185:11
 read-props-requires : tie.Need-read-props-requires
 read-props-requires c κs = search needs
 
--- src/item.rt:186:28
 enum-known-number : tie.Need-enum-known-number
 enum-known-number c = search needs
 
--- src/item.rt:186:47
 turn-refused-requires : tie.Need-turn-refused-requires
 turn-refused-requires c κs = search needs
 
--- src/item.rt:187:26
 enum-known-value : tie.Need-enum-known-value
 enum-known-value c = search needs
 
--- src/item.rt:191:23
 with-numbers-requires : tie.Need-with-numbers-requires
 with-numbers-requires c κs = search needs
 
--- src/item.rt:178:1
 returns : tie.Need-returns
-returns c = search needs
+returns c =
+    let at-arm = c .before .before in
+    let at-read = at-arm .before .before in
+    let at-entry = at-read .before .before in
+    props-stop (now (at-entry .args .text)) (at-entry .args .at) (at-entry .args .head) _ _ _ _ (at-arm .number .given .1) (at-read .read-props .ensures) (c .turn-refused .ensures)
 
--- src/item.rt:178:1
 returns-2 : tie.Need-returns-2
-returns-2 c = search needs
+returns-2 c =
+    let at-arm = c .before .before in
+    let at-read = at-arm .before .before in
+    let at-entry = at-read .before .before in
+    rw (c .with-numbers .ensures) (props-go (now (at-entry .args .text)) (at-entry .args .at) (at-entry .args .head) _ _ _ (at-arm .value .given .1) (at-read .read-props .ensures))
 
 pub take-props-spec : {M : Type 1} → statement M
 take-props-spec =

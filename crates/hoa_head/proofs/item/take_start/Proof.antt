@@ -1,40 +1,38 @@
-use native.Mathlib.Omega.{arith}
+-- `item::take_start` meets its contract: by what `read_start` promises (`start-stop`, `start-go`). Assumes nothing.
+use denote.Ref.{now}
+use Rattle.hoa_head.proofs.Items.{start-go, start-stop}
 use borrow.Author.Needs.{needs}
 use Rattle.hoa_head.proofs.item.take_start.Statement.{statement}
 use Rattle.hoa_head.proofs.item.take_start.Tie as tie
-use Rattle.hoa_head.proofs.item.take_start.Reads as reads
-use Rattle.hoa_head.proofs.item.take_start.Lts as lts
-use Rattle.hoa_head.proofs.item.turn_refused.Reads as turn-refused-reads
-use Rattle.hoa_head.proofs.item.with_numbers.Reads as with-numbers-reads
-use Rattle.hoa_head.proofs.value.read_start.Reads as read-start-reads
 
--- src/item.rt:165:11
 read-start-requires : tie.Need-read-start-requires
 read-start-requires c κs = search needs
 
--- src/item.rt:166:28
 enum-known-number : tie.Need-enum-known-number
 enum-known-number c = search needs
 
--- src/item.rt:166:47
 turn-refused-requires : tie.Need-turn-refused-requires
 turn-refused-requires c κs = search needs
 
--- src/item.rt:167:26
 enum-known-value : tie.Need-enum-known-value
 enum-known-value c = search needs
 
--- src/item.rt:171:23
 with-numbers-requires : tie.Need-with-numbers-requires
 with-numbers-requires c κs = search needs
 
--- src/item.rt:158:1
 returns : tie.Need-returns
-returns c = search needs
+returns c =
+    let at-arm = c .before .before in
+    let at-read = at-arm .before .before in
+    let at-entry = at-read .before .before in
+    start-stop (now (at-entry .args .text)) (at-entry .args .at) (at-entry .args .head) _ _ _ _ (at-arm .number .given .1) (at-read .read-start .ensures) (c .turn-refused .ensures)
 
--- src/item.rt:158:1
 returns-2 : tie.Need-returns-2
-returns-2 c = search needs
+returns-2 c =
+    let at-arm = c .before .before in
+    let at-read = at-arm .before .before in
+    let at-entry = at-read .before .before in
+    rw (c .with-numbers .ensures) (start-go (now (at-entry .args .text)) (at-entry .args .at) (at-entry .args .head) _ _ _ (at-arm .value .given .1) (at-read .read-start .ensures))
 
 pub take-start-spec : {M : Type 1} → statement M
 take-start-spec =

@@ -14,3 +14,5 @@ pub mod Naming
 pub mod Items
 -- Openings: `HOA: v1`
 pub mod Openings
+-- Promises: two results that are allowed say the same; the header of a text always ends
+pub mod Promises

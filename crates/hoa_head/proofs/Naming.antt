@@ -108,8 +108,9 @@ module _ (text from to : List ℕ) (at count : ℕ) (r : Spot) (s : Spotted text
     pub one-next : Next text at (r .first) (r .next) (s .token)
     one-next = s .goes-on (rw (text-piece (r .piece) e))
 
-    pub one-order : r .first + 1 ≤ r .next - 1
-    one-order = omega (arith, s .wide (text-piece (r .piece) e))
+    -- the bytes between its quotes
+    pub one-span : (r .first + 1 ≤ r .next - 1) × (r .next - 1 ≤ length text)
+    one-span = (omega (arith, s .wide (text-piece (r .piece) e)), omega (arith, one-next .within))
 
     pub one-came : nameCame (part text (r .first + 1) (r .next - 1)) (nameList text from to count) ≡ true
         → OneName text from to at count (name-read.Refused 41 (r .first))
@@ -128,7 +129,7 @@ module _ (text from to : List ℕ) (at count : ℕ) (r : Spot) (s : Spotted text
           says = λ a h m.
               first-goes headStep text at (one-next .is) (names a (part text (r .first + 1) (r .next - 1) ∷ nameList text from to count) h)
               (rw (token-is, list-length text from to count, lt-leb a count m, q));
-          stays = (one-order, (omega (arith, one-next .within), (omega (arith, one-next .behind-at, one-next .takes), one-next .within)));
+          stays = (one-span .0, (one-span .1, (omega (arith, one-next .behind-at, one-next .takes), one-next .within)));
         }
 
 -- ---- behind all names

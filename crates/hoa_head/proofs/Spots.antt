@@ -181,7 +181,9 @@ spotted text at f r h e a b =
       is = rw (a, b) (tokens-next text at f h);
       piece = rw e (piece-of-kind text (f .first) (f .next) (f .kind));
       quoted = λ q. rw (a, b) (ap (tokenOf text (f .first) (f .next)) (kind-text (f .kind) (sym e ∙ q)));
-      wide = λ q. rw (a, b) (first-wide at (drop at text) (part text (f .first + 1) (f .next - 1)) _ (h .is) (ap (tokenOf text (f .first) (f .next)) (kind-text (f .kind) (sym e ∙ q))));
+      wide = λ q.
+          rw (a, b)
+          (first-wide at (drop at text) (part text (f .first + 1) (f .next - 1)) _ (h .is) (ap (tokenOf text (f .first) (f .next)) (kind-text (f .kind) (sym e ∙ q))));
       goes-on = λ q.
           let n = not-finish (f .kind) (rw e at q) in
           rw (a, b) (found-next f h (tokenOf text (f .first) (f .next) (f .kind)) refl n (unless-kind text (f .first) (f .next) (f .kind) (tokensAt text (f .next)) n));

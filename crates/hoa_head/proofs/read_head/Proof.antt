@@ -22,21 +22,24 @@ read-items-requires c κs =
     let at-arm = c .before in
     let at-opening = at-arm .before .before in
     let at-entry = at-opening .before .before in
-    opened-within (now (at-entry .args .text)) _ _ (at-opening .read-opening .ensures) (at-arm .next .given .1)
+    let text = now (at-entry .args .text) in
+    opened-within text _ _ (at-opening .read-opening .ensures) (at-arm .next .given .1)
 
 returns : tie.Need-returns
 returns c =
     let at-arm = c .before .before in
     let at-opening = at-arm .before .before in
     let at-entry = at-opening .before .before in
-    head-stops (now (at-entry .args .text)) _ _ _ _ (at-opening .read-opening .ensures) (at-arm .number .given .1) (c .refused .ensures)
+    let text = now (at-entry .args .text) in
+    head-stops text _ _ _ _ (at-opening .read-opening .ensures) (at-arm .number .given .1) (c .refused .ensures)
 
 returns-2 : tie.Need-returns-2
 returns-2 c =
     let at-arm = c .before .before in
     let at-opening = at-arm .before .before in
     let at-entry = at-opening .before .before in
-    head-goes (now (at-entry .args .text)) _ _ _ (at-opening .read-opening .ensures) (at-arm .next .given .1) (c .read-items .ensures)
+    let text = now (at-entry .args .text) in
+    head-goes text _ _ _ (at-opening .read-opening .ensures) (at-arm .next .given .1) (c .read-items .ensures)
 
 pub read-head-spec : {M : Type 1} → statement M
 read-head-spec =

@@ -21,7 +21,8 @@ blank-head-requires c κs = search needs
 loop-holds : tie.Need-loop-holds Inv-loop μ-loop
 loop-holds c =
     let at-entry = c .before .before in
-    reading-none (now (at-entry .args .text)) (at-entry .args .at) _ (c .blank-head .ensures) (at-entry .pre)
+    let text = now (at-entry .args .text) in
+    reading-none text (at-entry .args .at) _ (c .blank-head .ensures) (at-entry .pre)
 
 read-item-requires : tie.Need-read-item-requires Inv-loop μ-loop
 read-item-requires c κs = c .loop .inv .within
@@ -38,7 +39,10 @@ returns c =
     let at-item = at-arm .before .before in
     let at-loop = at-item .before in
     let at-entry = at-loop .before .before .before in
-    items-stop (now (at-entry .args .text)) (at-entry .args .at) (at-loop .loop .head) (at-loop .loop .next) (at-loop .loop .inv) (at-item .read-item .result) (at-item .read-item .ensures) _ _ _ (at-arm .turn .given .1) (c .refused .ensures)
+    let text = now (at-entry .args .text) in
+    let l = at-loop .loop in
+    let turned = at-item .read-item in
+    items-stop text (at-entry .args .at) (l .head) (l .next) (l .inv) (turned .result) (turned .ensures) _ _ _ (at-arm .turn .given .1) (c .refused .ensures)
 
 enum-known-turn-2 : tie.Need-enum-known-turn-2 Inv-loop μ-loop
 enum-known-turn-2 c = search needs
@@ -49,7 +53,10 @@ returns-2 c =
     let at-item = at-arm .before .before in
     let at-loop = at-item .before in
     let at-entry = at-loop .before .before .before in
-    items-done (now (at-entry .args .text)) (at-entry .args .at) (at-loop .loop .head) (at-loop .loop .next) (at-loop .loop .inv) (at-item .read-item .result) (at-item .read-item .ensures) _ (at-arm .turn2 .given .1)
+    let text = now (at-entry .args .text) in
+    let l = at-loop .loop in
+    let turned = at-item .read-item in
+    items-done text (at-entry .args .at) (l .head) (l .next) (l .inv) (turned .result) (turned .ensures) _ (at-arm .turn2 .given .1)
 
 enum-known-turn-3 : tie.Need-enum-known-turn-3 Inv-loop μ-loop
 enum-known-turn-3 c = search needs
@@ -60,7 +67,10 @@ loop-less c =
     let at-item = at-arm .before .before in
     let at-loop = at-item .before in
     let at-entry = at-loop .before .before .before in
-    omega (arith, items-less (now (at-entry .args .text)) (at-entry .args .at) (at-loop .loop .head) (at-loop .loop .next) (at-loop .loop .inv) (at-item .read-item .result) (at-item .read-item .ensures) _ (at-arm .turn3 .given .1))
+    let text = now (at-entry .args .text) in
+    let l = at-loop .loop in
+    let turned = at-item .read-item in
+    omega (arith, items-less text (at-entry .args .at) (l .head) (l .next) (l .inv) (turned .result) (turned .ensures) _ (at-arm .turn3 .given .1))
 
 loop-again : tie.Need-loop-again Inv-loop μ-loop
 loop-again c =
@@ -68,7 +78,10 @@ loop-again c =
     let at-item = at-arm .before .before in
     let at-loop = at-item .before in
     let at-entry = at-loop .before .before .before in
-    items-go (now (at-entry .args .text)) (at-entry .args .at) (at-loop .loop .head) (at-loop .loop .next) (at-loop .loop .inv) (at-item .read-item .result) (at-item .read-item .ensures) _ (at-arm .turn3 .given .1)
+    let text = now (at-entry .args .text) in
+    let l = at-loop .loop in
+    let turned = at-item .read-item in
+    items-go text (at-entry .args .at) (l .head) (l .next) (l .inv) (turned .result) (turned .ensures) _ (at-arm .turn3 .given .1)
 
 pub read-items-spec : {M : Type 1} → statement M
 read-items-spec =

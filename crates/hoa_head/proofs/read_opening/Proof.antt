@@ -18,7 +18,9 @@ returns c =
     let at-fault = c .before in
     let at-opener = at-fault .before in
     let at-entry = at-opener .before .before in
-    opening-wrong (now (at-entry .args .text)) (at-opener .token-at .result) (at-opener .token-at .ensures) _ (at-fault .opening-fault .ensures) (c .if1 .taken)
+    let text = now (at-entry .args .text) in
+    let opener = at-opener .token-at in
+    opening-wrong text (opener .result) (opener .ensures) _ (at-fault .opening-fault .ensures) (c .if1 .taken)
 
 token-at-requires-2 : tie.Need-token-at-requires-2
 token-at-requires-2 c κs = search needs
@@ -34,7 +36,10 @@ returns-2 c =
     let at-fault = at-test .before in
     let at-opener = at-fault .before in
     let at-entry = at-opener .before .before in
-    version-wrong (now (at-entry .args .text)) (at-opener .token-at .result) (at-opener .token-at .ensures) (sym (at-fault .opening-fault .ensures) ∙ at-test .if1 .left) (at-version .token-at2 .result) (at-version .token-at2 .ensures) _
+    let text = now (at-entry .args .text) in
+    let opener = at-opener .token-at in
+    version-wrong text (opener .result) (opener .ensures) (sym (at-fault .opening-fault .ensures) ∙ at-test .if1 .left) (at-version .token-at2 .result)
+    (at-version .token-at2 .ensures) _
     (at-wrong .version-fault .ensures) (c .if2 .taken)
 
 returns-3 : tie.Need-returns-3
@@ -45,7 +50,10 @@ returns-3 c =
     let at-fault = at-test .before in
     let at-opener = at-fault .before in
     let at-entry = at-opener .before .before in
-    version-goes (now (at-entry .args .text)) (at-opener .token-at .result) (at-opener .token-at .ensures) (sym (at-fault .opening-fault .ensures) ∙ at-test .if1 .left) (at-version .token-at2 .result) (at-version .token-at2 .ensures)
+    let text = now (at-entry .args .text) in
+    let opener = at-opener .token-at in
+    version-goes text (opener .result) (opener .ensures) (sym (at-fault .opening-fault .ensures) ∙ at-test .if1 .left) (at-version .token-at2 .result)
+    (at-version .token-at2 .ensures)
     (sym (at-wrong .version-fault .ensures) ∙ c .if2 .left)
 
 pub read-opening-spec : {M : Type 1} → statement M

@@ -29,7 +29,10 @@ returns c =
     let at-arm = at-test .before .before in
     let at-read = at-arm .before .before in
     let at-entry = at-read .before .before in
-    marks-many (now (at-entry .args .text)) (at-entry .args .at) _ _ _ (int-there (now (at-entry .args .text)) (at-entry .args .at) _ (at-arm .marks .given .1) (at-read .read-int .ensures)) _ (c .formed-refused2 .ensures) (at-test .if1 .taken)
+    let text = now (at-entry .args .text) in
+    let args = at-entry .args in
+    marks-many text (args .at) _ _ _ (int-there text (args .at) _ (at-arm .marks .given .1) (at-read .read-int .ensures)) _ (c .formed-refused2 .ensures)
+    (at-test .if1 .taken)
 
 read-formula-requires : tie.Need-read-formula-requires
 read-formula-requires c κs = search needs
@@ -60,7 +63,9 @@ returns-2 c =
     let at-arm = c .before .before in
     let at-read = at-arm .before .before in
     let at-entry = at-read .before .before in
-    marks-stop (now (at-entry .args .text)) (at-entry .args .at) _ _ _ (c .formed-refused .ensures) (int-not (now (at-entry .args .text)) (at-entry .args .at) _ (at-arm .number .given .1) (at-read .read-int .ensures)) (at-entry .pre)
+    let text = now (at-entry .args .text) in
+    let args = at-entry .args in
+    marks-stop text (args .at) _ _ _ (c .formed-refused .ensures) (int-not text (args .at) _ (at-arm .number .given .1) (at-read .read-int .ensures)) (at-entry .pre)
 
 returns-3 : tie.Need-returns-3
 returns-3 c =
@@ -70,7 +75,11 @@ returns-3 c =
     let at-arm = at-test .before .before in
     let at-read = at-arm .before .before in
     let at-entry = at-read .before .before in
-    formula-stops (now (at-entry .args .text)) (at-entry .args .at) _ _ _ (int-there (now (at-entry .args .text)) (at-entry .args .at) _ (at-arm .marks .given .1) (at-read .read-int .ensures)) _ (at-formula .read-formula .result) (at-formula .read-formula .ensures) (at-test .if1 .left) _ _ (at-found .found .given .1) (c .formed-refused3 .ensures)
+    let text = now (at-entry .args .text) in
+    let args = at-entry .args in
+    let formula = at-formula .read-formula in
+    formula-stops text (args .at) _ _ _ (int-there text (args .at) _ (at-arm .marks .given .1) (at-read .read-int .ensures)) _ (formula .result) (formula .ensures)
+    (at-test .if1 .left) _ _ (at-found .found .given .1) (c .formed-refused3 .ensures)
 
 returns-4 : tie.Need-returns-4
 returns-4 c =
@@ -82,7 +91,12 @@ returns-4 c =
     let at-arm = at-test .before .before in
     let at-read = at-arm .before .before in
     let at-entry = at-read .before .before in
-    formula-short (now (at-entry .args .text)) (at-entry .args .at) _ _ _ (int-there (now (at-entry .args .text)) (at-entry .args .at) _ (at-arm .marks .given .1) (at-read .read-int .ensures)) _ (at-formula .read-formula .result) (at-formula .read-formula .ensures) (at-test .if1 .left) _ _ (at-look .look .result) (at-found .found2 .given .1) (at-look .look .ensures) (at-number .unfinished .ensures) (c .formed-refused4 .ensures)
+    let text = now (at-entry .args .text) in
+    let args = at-entry .args in
+    let spot = at-look .look in
+    let formula = at-formula .read-formula in
+    formula-short text (args .at) _ _ _ (int-there text (args .at) _ (at-arm .marks .given .1) (at-read .read-int .ensures)) _ (formula .result) (formula .ensures)
+    (at-test .if1 .left) _ _ (spot .result) (at-found .found2 .given .1) (spot .ensures) (at-number .unfinished .ensures) (c .formed-refused4 .ensures)
 
 returns-5 : tie.Need-returns-5
 returns-5 c =
@@ -92,7 +106,11 @@ returns-5 c =
     let at-arm = at-test .before .before in
     let at-read = at-arm .before .before in
     let at-entry = at-read .before .before in
-    formula-whole (now (at-entry .args .text)) (at-entry .args .at) _ _ _ (int-there (now (at-entry .args .text)) (at-entry .args .at) _ (at-arm .marks .given .1) (at-read .read-int .ensures)) _ (at-formula .read-formula .result) (at-formula .read-formula .ensures) (at-test .if1 .left) _ _ (at-found .found3 .given .1) refl refl
+    let text = now (at-entry .args .text) in
+    let args = at-entry .args in
+    let formula = at-formula .read-formula in
+    formula-whole text (args .at) _ _ _ (int-there text (args .at) _ (at-arm .marks .given .1) (at-read .read-int .ensures)) _ (formula .result) (formula .ensures)
+    (at-test .if1 .left) _ _ (at-found .found3 .given .1) refl refl
 
 pub read-marks-spec : {M : Type 1} → statement M
 read-marks-spec =

@@ -19,7 +19,9 @@ abbrev μ-loop : tie.MeasureT-loop
 loop-holds : tie.Need-loop-holds Inv-loop μ-loop
 loop-holds c =
     let at-entry = c .before in
-    none-so-far (now (at-entry .args .text)) (at-entry .args .at) (at-entry .args .ints) (at-entry .args .texts) (at-entry .pre)
+    let text = now (at-entry .args .text) in
+    let args = at-entry .args in
+    none-so-far text (args .at) (args .ints) (args .texts) (at-entry .pre)
 
 look-requires : tie.Need-look-requires Inv-loop μ-loop
 look-requires c κs = search needs
@@ -33,7 +35,11 @@ returns c =
     let at-look = at-test .before in
     let at-loop = at-look .before in
     let at-entry = at-loop .before .before in
-    hints-end (now (at-entry .args .text)) (at-entry .args .at) (at-entry .args .ints) (at-entry .args .texts) (at-loop .loop .next) (at-look .look .result) (at-loop .loop .inv) (at-look .look .ensures)
+    let text = now (at-entry .args .text) in
+    let args = at-entry .args in
+    let spot = at-look .look in
+    let l = at-loop .loop in
+    hints-end text (args .at) (args .ints) (args .texts) (l .next) (spot .result) (l .inv) (spot .ensures)
     (sym (at-test .is-hint .ensures) ∙ not-true _ (c .if1 .taken))
 
 loop-less : tie.Need-loop-less Inv-loop μ-loop
@@ -42,7 +48,11 @@ loop-less c =
     let at-look = at-test .before in
     let at-loop = at-look .before in
     let at-entry = at-loop .before .before in
-    hint-less (now (at-entry .args .text)) (at-entry .args .at) (at-entry .args .ints) (at-entry .args .texts) (at-loop .loop .next) (at-look .look .result) (at-loop .loop .inv) (at-look .look .ensures)
+    let text = now (at-entry .args .text) in
+    let args = at-entry .args in
+    let spot = at-look .look in
+    let l = at-loop .loop in
+    hint-less text (args .at) (args .ints) (args .texts) (l .next) (spot .result) (l .inv) (spot .ensures)
     (sym (at-test .is-hint .ensures) ∙ not-false _ (c .if1 .left))
 
 loop-again : tie.Need-loop-again Inv-loop μ-loop
@@ -51,7 +61,11 @@ loop-again c =
     let at-look = at-test .before in
     let at-loop = at-look .before in
     let at-entry = at-loop .before .before in
-    hint-goes (now (at-entry .args .text)) (at-entry .args .at) (at-entry .args .ints) (at-entry .args .texts) (at-loop .loop .next) (at-look .look .result) (at-loop .loop .inv) (at-look .look .ensures)
+    let text = now (at-entry .args .text) in
+    let args = at-entry .args in
+    let spot = at-look .look in
+    let l = at-loop .loop in
+    hint-goes text (args .at) (args .ints) (args .texts) (l .next) (spot .result) (l .inv) (spot .ensures)
     (sym (at-test .is-hint .ensures) ∙ not-false _ (c .if1 .left))
 
 pub pass-hints-spec : {M : Type 1} → statement M

@@ -17,7 +17,9 @@ pass-hints-requires c κs =
     let at-test = c .before in
     let at-look = at-test .before in
     let at-entry = at-look .before .before in
-    word-next (now (at-entry .args .text)) (at-entry .args .at) (at-look .look .result) (at-look .look .ensures) (sym (at-test .is-word .ensures) ∙ c .if1 .taken) .within
+    let text = now (at-entry .args .text) in
+    let spot = at-look .look in
+    word-next text (at-entry .args .at) (spot .result) (spot .ensures) (sym (at-test .is-word .ensures) ∙ c .if1 .taken) .within
 
 returns : tie.Need-returns
 returns c =
@@ -25,7 +27,9 @@ returns c =
     let at-test = at-taken .before in
     let at-look = at-test .before in
     let at-entry = at-look .before .before in
-    acc-goes (now (at-entry .args .text)) (at-entry .args .at) (at-look .look .result) (at-look .look .ensures) _ (sym (at-test .is-word .ensures) ∙ at-taken .if1 .taken) (c .pass-hints .ensures)
+    let text = now (at-entry .args .text) in
+    let spot = at-look .look in
+    acc-goes text (at-entry .args .at) (spot .result) (spot .ensures) _ (sym (at-test .is-word .ensures) ∙ at-taken .if1 .taken) (c .pass-hints .ensures)
 
 stray-requires : tie.Need-stray-requires
 stray-requires c κs = search needs
@@ -36,7 +40,9 @@ returns-2 c =
     let at-test = at-left .before in
     let at-look = at-test .before in
     let at-entry = at-look .before .before in
-    acc-stops (now (at-entry .args .text)) (at-entry .args .at) (at-look .look .result) (at-look .look .ensures) _ (sym (at-test .is-word .ensures) ∙ at-left .if1 .left) (c .stray .ensures) (at-entry .pre)
+    let text = now (at-entry .args .text) in
+    let spot = at-look .look in
+    acc-stops text (at-entry .args .at) (spot .result) (spot .ensures) _ (sym (at-test .is-word .ensures) ∙ at-left .if1 .left) (c .stray .ensures) (at-entry .pre)
 
 pub read-acc-name-spec : {M : Type 1} → statement M
 read-acc-name-spec =

@@ -20,14 +20,18 @@ returns c =
     let at-arm = c .before in
     let at-read = at-arm .before .before in
     let at-entry = at-read .before .before in
-    text-stops (now (at-entry .args .text)) (at-entry .args .at) _ _ nameText items items name-text (text-not (now (at-entry .args .text)) (at-entry .args .at) _ (at-arm .number .given .1) (at-read .read-text .ensures)) (at-entry .pre)
+    let text = now (at-entry .args .text) in
+    let args = at-entry .args in
+    text-stops text (args .at) _ _ nameText items items name-text (text-not text (args .at) _ (at-arm .number .given .1) (at-read .read-text .ensures)) (at-entry .pre)
 
 returns-2 : tie.Need-returns-2
 returns-2 c =
     let at-arm = c .before in
     let at-read = at-arm .before .before in
     let at-entry = at-read .before .before in
-    name-passed (now (at-entry .args .text)) (at-entry .args .at) _ (text-there (now (at-entry .args .text)) (at-entry .args .at) _ (at-arm .next .given .1) (at-read .read-text .ensures))
+    let text = now (at-entry .args .text) in
+    let args = at-entry .args in
+    name-passed text (args .at) _ (text-there text (args .at) _ (at-arm .next .given .1) (at-read .read-text .ensures))
 
 pub read-name-spec : {M : Type 1} → statement M
 read-name-spec =

@@ -30,14 +30,21 @@ returns c =
     let at-arm = at-look .before .before in
     let at-read = at-arm .before .before in
     let at-entry = at-read .before .before in
-    tool-second (now (at-entry .args .text)) (at-entry .args .at) _ (text-there (now (at-entry .args .text)) (at-entry .args .at) _ (at-arm .next .given .1) (at-read .read-text .ensures)) (at-look .look .result) (at-look .look .ensures) (sym (at-test .is-text .ensures) ∙ c .if1 .taken)
+    let text = now (at-entry .args .text) in
+    let args = at-entry .args in
+    let spot = at-look .look in
+    tool-second text (args .at) _ (text-there text (args .at) _ (at-arm .next .given .1) (at-read .read-text .ensures)) (spot .result) (spot .ensures)
+    (sym (at-test .is-text .ensures) ∙ c .if1 .taken)
 
 returns-2 : tie.Need-returns-2
 returns-2 c =
     let at-arm = c .before in
     let at-read = at-arm .before .before in
     let at-entry = at-read .before .before in
-    text-stops (now (at-entry .args .text)) (at-entry .args .at) _ _ toolText items toolMore tool-text (text-not (now (at-entry .args .text)) (at-entry .args .at) _ (at-arm .number .given .1) (at-read .read-text .ensures)) (at-entry .pre)
+    let text = now (at-entry .args .text) in
+    let args = at-entry .args in
+    text-stops text (args .at) _ _ toolText items toolMore tool-text (text-not text (args .at) _ (at-arm .number .given .1) (at-read .read-text .ensures))
+    (at-entry .pre)
 
 returns-3 : tie.Need-returns-3
 returns-3 c =
@@ -46,7 +53,11 @@ returns-3 c =
     let at-arm = at-look .before .before in
     let at-read = at-arm .before .before in
     let at-entry = at-read .before .before in
-    tool-alone (now (at-entry .args .text)) (at-entry .args .at) _ (text-there (now (at-entry .args .text)) (at-entry .args .at) _ (at-arm .next .given .1) (at-read .read-text .ensures)) (at-look .look .result) (at-look .look .ensures) (sym (at-test .is-text .ensures) ∙ c .if1 .left)
+    let text = now (at-entry .args .text) in
+    let args = at-entry .args in
+    let spot = at-look .look in
+    tool-alone text (args .at) _ (text-there text (args .at) _ (at-arm .next .given .1) (at-read .read-text .ensures)) (spot .result) (spot .ensures)
+    (sym (at-test .is-text .ensures) ∙ c .if1 .left)
 
 pub read-tool-spec : {M : Type 1} → statement M
 read-tool-spec =

@@ -29,7 +29,8 @@ returns-2 c =
     let at-marks = at-last .before in
     let at-test = at-marks .before in
     let at-given = at-test .before in
-    rw (sym (at-given .is-given .ensures) ∙ not-false _ (at-test .if1 .left), sym (at-marks .is-given2 .ensures) ∙ not-true _ (at-last .if2 .taken)) (c .turn-refused2 .ensures)
+    rw (sym (at-given .is-given .ensures) ∙ not-false _ (at-test .if1 .left), sym (at-marks .is-given2 .ensures) ∙ not-true _ (at-last .if2 .taken))
+    (c .turn-refused2 .ensures)
 
 returns-3 : tie.Need-returns-3
 returns-3 c =

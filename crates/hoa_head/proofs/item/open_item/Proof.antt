@@ -21,7 +21,10 @@ returns c =
     let at-test = c .before in
     let at-second = at-test .before in
     let at-entry = at-second .before .before in
-    opened-wrong (now (at-entry .args .text)) (at-entry .args .place) (at-entry .args .next) (at-entry .args .head) (at-entry .args .header) _ 41 (second-is (at-entry .args .head) (at-entry .args .header) (sym (at-second .is-second .ensures) ∙ at-test .if1 .taken)) (c .turn-refused .ensures) (at-entry .pre .0)
+    let text = now (at-entry .args .text) in
+    let args = at-entry .args in
+    opened-wrong text (args .place) (args .next) (args .head) (args .header) _ 41
+    (second-is (args .head) (args .header) (sym (at-second .is-second .ensures) ∙ at-test .if1 .taken)) (c .turn-refused .ensures) (at-entry .pre .0)
 
 enum-told : tie.Need-enum-told
 enum-told c = search needs
@@ -107,8 +110,10 @@ returns-2 c =
     let at-test = at-arm .before .before in
     let at-second = at-test .before in
     let at-entry = at-second .before .before in
-    opened-goes (now (at-entry .args .text)) (at-entry .args .place) (at-entry .args .next) (at-entry .args .head) (at-entry .args .header) _ (statesInt (at-entry .args .head))
-    (opens-states (at-entry .args .head) (at-entry .args .header) (at-arm .enum-told .given .1) (sym (at-second .is-second .ensures) ∙ at-test .if1 .left)) (c .take-states .ensures)
+    let text = now (at-entry .args .text) in
+    let args = at-entry .args in
+    opened-goes text (args .place) (args .next) (args .head) (args .header) _ (statesInt (args .head))
+    (opens-states (args .head) (args .header) (at-arm .enum-told .given .1) (sym (at-second .is-second .ensures) ∙ at-test .if1 .left)) (c .take-states .ensures)
 
 returns-3 : tie.Need-returns-3
 returns-3 c =
@@ -116,8 +121,10 @@ returns-3 c =
     let at-test = at-arm .before .before in
     let at-second = at-test .before in
     let at-entry = at-second .before .before in
-    opened-goes (now (at-entry .args .text)) (at-entry .args .place) (at-entry .args .next) (at-entry .args .head) (at-entry .args .header) _ (startInt (at-entry .args .head))
-    (opens-start (at-entry .args .head) (at-entry .args .header) (at-arm .enum-told2 .given .1) (sym (at-second .is-second .ensures) ∙ at-test .if1 .left)) (c .take-start .ensures)
+    let text = now (at-entry .args .text) in
+    let args = at-entry .args in
+    opened-goes text (args .place) (args .next) (args .head) (args .header) _ (startInt (args .head))
+    (opens-start (args .head) (args .header) (at-arm .enum-told2 .given .1) (sym (at-second .is-second .ensures) ∙ at-test .if1 .left)) (c .take-start .ensures)
 
 returns-4 : tie.Need-returns-4
 returns-4 c =
@@ -125,8 +132,10 @@ returns-4 c =
     let at-test = at-arm .before .before in
     let at-second = at-test .before in
     let at-entry = at-second .before .before in
-    opened-goes (now (at-entry .args .text)) (at-entry .args .place) (at-entry .args .next) (at-entry .args .head) (at-entry .args .header) _ (propsInt (at-entry .args .head))
-    (opens-props (at-entry .args .head) (at-entry .args .header) (at-arm .enum-told3 .given .1) (sym (at-second .is-second .ensures) ∙ at-test .if1 .left)) (c .take-props .ensures)
+    let text = now (at-entry .args .text) in
+    let args = at-entry .args in
+    opened-goes text (args .place) (args .next) (args .head) (args .header) _ (propsInt (args .head))
+    (opens-props (args .head) (args .header) (at-arm .enum-told3 .given .1) (sym (at-second .is-second .ensures) ∙ at-test .if1 .left)) (c .take-props .ensures)
 
 returns-5 : tie.Need-returns-5
 returns-5 c =
@@ -134,8 +143,10 @@ returns-5 c =
     let at-test = at-arm .before .before in
     let at-second = at-test .before in
     let at-entry = at-second .before .before in
-    opened-goes (now (at-entry .args .text)) (at-entry .args .place) (at-entry .args .next) (at-entry .args .head) (at-entry .args .header) _ (marksInt (at-entry .args .head))
-    (opens-marks (at-entry .args .head) (at-entry .args .header) (at-arm .enum-told4 .given .1) (sym (at-second .is-second .ensures) ∙ at-test .if1 .left)) (c .take-marks .ensures)
+    let text = now (at-entry .args .text) in
+    let args = at-entry .args in
+    opened-goes text (args .place) (args .next) (args .head) (args .header) _ (marksInt (args .head))
+    (opens-marks (args .head) (args .header) (at-arm .enum-told4 .given .1) (sym (at-second .is-second .ensures) ∙ at-test .if1 .left)) (c .take-marks .ensures)
 
 returns-6 : tie.Need-returns-6
 returns-6 c =
@@ -143,8 +154,10 @@ returns-6 c =
     let at-test = at-arm .before .before in
     let at-second = at-test .before in
     let at-entry = at-second .before .before in
-    opened-goes (now (at-entry .args .text)) (at-entry .args .place) (at-entry .args .next) (at-entry .args .head) (at-entry .args .header) _ (accName (withAccName (at-entry .args .head)))
-    (opens-acc-name (at-entry .args .head) (at-entry .args .header) (at-arm .enum-told5 .given .1) (sym (at-second .is-second .ensures) ∙ at-test .if1 .left)) (c .take-acc-name .ensures)
+    let text = now (at-entry .args .text) in
+    let args = at-entry .args in
+    opened-goes text (args .place) (args .next) (args .head) (args .header) _ (accName (withAccName (args .head)))
+    (opens-acc-name (args .head) (args .header) (at-arm .enum-told5 .given .1) (sym (at-second .is-second .ensures) ∙ at-test .if1 .left)) (c .take-acc-name .ensures)
 
 returns-7 : tie.Need-returns-7
 returns-7 c =
@@ -152,8 +165,10 @@ returns-7 c =
     let at-test = at-arm .before .before in
     let at-second = at-test .before in
     let at-entry = at-second .before .before in
-    opened-goes (now (at-entry .args .text)) (at-entry .args .place) (at-entry .args .next) (at-entry .args .head) (at-entry .args .header) _ (toolText (withTool (at-entry .args .head)))
-    (opens-tool (at-entry .args .head) (at-entry .args .header) (at-arm .enum-told6 .given .1) (sym (at-second .is-second .ensures) ∙ at-test .if1 .left)) (c .take-tool .ensures)
+    let text = now (at-entry .args .text) in
+    let args = at-entry .args in
+    opened-goes text (args .place) (args .next) (args .head) (args .header) _ (toolText (withTool (args .head)))
+    (opens-tool (args .head) (args .header) (at-arm .enum-told6 .given .1) (sym (at-second .is-second .ensures) ∙ at-test .if1 .left)) (c .take-tool .ensures)
 
 returns-8 : tie.Need-returns-8
 returns-8 c =
@@ -161,44 +176,60 @@ returns-8 c =
     let at-test = at-arm .before .before in
     let at-second = at-test .before in
     let at-entry = at-second .before .before in
-    opened-goes (now (at-entry .args .text)) (at-entry .args .place) (at-entry .args .next) (at-entry .args .head) (at-entry .args .header) _ (nameText (withName (at-entry .args .head)))
-    (opens-name (at-entry .args .head) (at-entry .args .header) (at-arm .enum-told7 .given .1) (sym (at-second .is-second .ensures) ∙ at-test .if1 .left)) (c .take-name .ensures)
+    let text = now (at-entry .args .text) in
+    let args = at-entry .args in
+    opened-goes text (args .place) (args .next) (args .head) (args .header) _ (nameText (withName (args .head)))
+    (opens-name (args .head) (args .header) (at-arm .enum-told7 .given .1) (sym (at-second .is-second .ensures) ∙ at-test .if1 .left)) (c .take-name .ensures)
 
 returns-9 : tie.Need-returns-9
 returns-9 c =
     let at-arm = c .before in
     let at-entry = at-arm .before .before .before .before .before in
-    opened-goes (now (at-entry .args .text)) (at-entry .args .place) (at-entry .args .next) (at-entry .args .head) (at-entry .args .header) _ (hints false false (at-entry .args .head)) (rw (at-arm .enum-told8 .given .1)) (c .take-hints .ensures)
+    let text = now (at-entry .args .text) in
+    let args = at-entry .args in
+    opened-goes text (args .place) (args .next) (args .head) (args .header) _ (hints false false (args .head)) (rw (at-arm .enum-told8 .given .1))
+    (c .take-hints .ensures)
 
 returns-10 : tie.Need-returns-10
 returns-10 c =
     let at-arm = c .before in
     let at-entry = at-arm .before .before .before .before .before in
-    opened-goes (now (at-entry .args .text)) (at-entry .args .place) (at-entry .args .next) (at-entry .args .head) (at-entry .args .header) _ (hints true true (at-entry .args .head)) (rw (at-arm .enum-told9 .given .1)) (c .take-hints2 .ensures)
+    let text = now (at-entry .args .text) in
+    let args = at-entry .args in
+    opened-goes text (args .place) (args .next) (args .head) (args .header) _ (hints true true (args .head)) (rw (at-arm .enum-told9 .given .1))
+    (c .take-hints2 .ensures)
 
 returns-11 : tie.Need-returns-11
 returns-11 c =
     let at-arm = c .before in
     let at-entry = at-arm .before .before .before .before .before in
-    opened-wrong (now (at-entry .args .text)) (at-entry .args .place) (at-entry .args .next) (at-entry .args .head) (at-entry .args .header) _ 41 (rw (at-arm .enum-told10 .given .1)) (c .turn-refused2 .ensures) (at-entry .pre .0)
+    let text = now (at-entry .args .text) in
+    let args = at-entry .args in
+    opened-wrong text (args .place) (args .next) (args .head) (args .header) _ 41 (rw (at-arm .enum-told10 .given .1)) (c .turn-refused2 .ensures) (at-entry .pre .0)
 
 returns-12 : tie.Need-returns-12
 returns-12 c =
     let at-arm = c .before in
     let at-entry = at-arm .before .before .before .before .before in
-    opened-wrong (now (at-entry .args .text)) (at-entry .args .place) (at-entry .args .next) (at-entry .args .head) (at-entry .args .header) _ 41 (rw (at-arm .enum-told11 .given .1)) (c .turn-refused3 .ensures) (at-entry .pre .0)
+    let text = now (at-entry .args .text) in
+    let args = at-entry .args in
+    opened-wrong text (args .place) (args .next) (args .head) (args .header) _ 41 (rw (at-arm .enum-told11 .given .1)) (c .turn-refused3 .ensures) (at-entry .pre .0)
 
 returns-13 : tie.Need-returns-13
 returns-13 c =
     let at-arm = c .before in
     let at-entry = at-arm .before .before .before .before .before in
-    opened-wrong (now (at-entry .args .text)) (at-entry .args .place) (at-entry .args .next) (at-entry .args .head) (at-entry .args .header) _ 40 (rw (at-arm .enum-told12 .given .1)) (c .turn-refused4 .ensures) (at-entry .pre .0)
+    let text = now (at-entry .args .text) in
+    let args = at-entry .args in
+    opened-wrong text (args .place) (args .next) (args .head) (args .header) _ 40 (rw (at-arm .enum-told12 .given .1)) (c .turn-refused4 .ensures) (at-entry .pre .0)
 
 returns-14 : tie.Need-returns-14
 returns-14 c =
     let at-arm = c .before in
     let at-entry = at-arm .before .before .before .before .before in
-    opened-wrong (now (at-entry .args .text)) (at-entry .args .place) (at-entry .args .next) (at-entry .args .head) (at-entry .args .header) _ 40 (rw (at-arm .enum-told13 .given .1)) (c .turn-refused5 .ensures) (at-entry .pre .0)
+    let text = now (at-entry .args .text) in
+    let args = at-entry .args in
+    opened-wrong text (args .place) (args .next) (args .head) (args .header) _ 40 (rw (at-arm .enum-told13 .given .1)) (c .turn-refused5 .ensures) (at-entry .pre .0)
 
 pub open-item-spec : {M : Type 1} → statement M
 open-item-spec =

@@ -18,7 +18,9 @@ open-item-requires c κs =
     let at-arm = c .before in
     let at-look = at-arm .before .before in
     let at-entry = at-look .before .before in
-    item-next (now (at-entry .args .text)) (at-entry .args .at) (at-look .look .result) _ (at-look .look .ensures) (at-arm .piece .given .1)
+    let text = now (at-entry .args .text) in
+    let spot = at-look .look in
+    item-next text (at-entry .args .at) (spot .result) _ (spot .ensures) (at-arm .piece .given .1)
 
 enum-told : tie.Need-enum-told
 enum-told c = search needs
@@ -61,49 +63,70 @@ returns c =
     let at-arm = c .before .before in
     let at-look = at-arm .before .before in
     let at-entry = at-look .before .before in
-    item-turned (now (at-entry .args .text)) (at-entry .args .at) (at-entry .args .head) (at-look .look .result) (at-look .look .ensures) _ _ (at-arm .piece .given .1) (c .open-item .ensures)
+    let text = now (at-entry .args .text) in
+    let args = at-entry .args in
+    let spot = at-look .look in
+    item-turned text (args .at) (args .head) (spot .result) (spot .ensures) _ _ (at-arm .piece .given .1) (c .open-item .ensures)
 
 returns-2 : tie.Need-returns-2
 returns-2 c =
     let at-arm = c .before in
     let at-look = at-arm .before .before in
     let at-entry = at-look .before .before in
-    body-turned (now (at-entry .args .text)) (at-entry .args .at) (at-entry .args .head) (at-look .look .result) (at-look .look .ensures) _ (at-arm .enum-told .given .1) (c .end-head .ensures)
+    let text = now (at-entry .args .text) in
+    let args = at-entry .args in
+    let spot = at-look .look in
+    body-turned text (args .at) (args .head) (spot .result) (spot .ensures) _ (at-arm .enum-told .given .1) (c .end-head .ensures)
 
 returns-3 : tie.Need-returns-3
 returns-3 c =
     let at-arm = c .before in
     let at-look = at-arm .before .before in
     let at-entry = at-look .before .before in
-    piece-wrong (now (at-entry .args .text)) (at-entry .args .at) (at-entry .args .head) (at-look .look .result) (at-look .look .ensures) _ 40 _ (at-arm .enum-told2 .given .1) refl (c .turn-refused .ensures) (at-entry .pre)
+    let text = now (at-entry .args .text) in
+    let args = at-entry .args in
+    let spot = at-look .look in
+    piece-wrong text (args .at) (args .head) (spot .result) (spot .ensures) _ 40 _ (at-arm .enum-told2 .given .1) refl (c .turn-refused .ensures) (at-entry .pre)
 
 returns-4 : tie.Need-returns-4
 returns-4 c =
     let at-arm = c .before in
     let at-look = at-arm .before .before in
     let at-entry = at-look .before .before in
-    piece-wrong (now (at-entry .args .text)) (at-entry .args .at) (at-entry .args .head) (at-look .look .result) (at-look .look .ensures) _ 40 _ (at-arm .enum-told3 .given .1) refl (c .turn-refused2 .ensures) (at-entry .pre)
+    let text = now (at-entry .args .text) in
+    let args = at-entry .args in
+    let spot = at-look .look in
+    piece-wrong text (args .at) (args .head) (spot .result) (spot .ensures) _ 40 _ (at-arm .enum-told3 .given .1) refl (c .turn-refused2 .ensures) (at-entry .pre)
 
 returns-5 : tie.Need-returns-5
 returns-5 c =
     let at-arm = c .before in
     let at-look = at-arm .before .before in
     let at-entry = at-look .before .before in
-    piece-wrong (now (at-entry .args .text)) (at-entry .args .at) (at-entry .args .head) (at-look .look .result) (at-look .look .ensures) _ 40 _ (at-arm .enum-told4 .given .1) refl (c .turn-refused3 .ensures) (at-entry .pre)
+    let text = now (at-entry .args .text) in
+    let args = at-entry .args in
+    let spot = at-look .look in
+    piece-wrong text (args .at) (args .head) (spot .result) (spot .ensures) _ 40 _ (at-arm .enum-told4 .given .1) refl (c .turn-refused3 .ensures) (at-entry .pre)
 
 returns-6 : tie.Need-returns-6
 returns-6 c =
     let at-arm = c .before in
     let at-look = at-arm .before .before in
     let at-entry = at-look .before .before in
-    piece-wrong (now (at-entry .args .text)) (at-entry .args .at) (at-entry .args .head) (at-look .look .result) (at-look .look .ensures) _ 40 _ (at-arm .enum-told5 .given .1) refl (c .turn-refused4 .ensures) (at-entry .pre)
+    let text = now (at-entry .args .text) in
+    let args = at-entry .args in
+    let spot = at-look .look in
+    piece-wrong text (args .at) (args .head) (spot .result) (spot .ensures) _ 40 _ (at-arm .enum-told5 .given .1) refl (c .turn-refused4 .ensures) (at-entry .pre)
 
 returns-7 : tie.Need-returns-7
 returns-7 c =
     let at-arm = c .before .before in
     let at-look = at-arm .before .before in
     let at-entry = at-look .before .before in
-    piece-wrong (now (at-entry .args .text)) (at-entry .args .at) (at-entry .args .head) (at-look .look .result) (at-look .look .ensures) _ _ _ (at-arm .piece2 .given .1) refl (c .turn-refused5 .ensures) (at-entry .pre)
+    let text = now (at-entry .args .text) in
+    let args = at-entry .args in
+    let spot = at-look .look in
+    piece-wrong text (args .at) (args .head) (spot .result) (spot .ensures) _ _ _ (at-arm .piece2 .given .1) refl (c .turn-refused5 .ensures) (at-entry .pre)
 
 pub read-item-spec : {M : Type 1} → statement M
 read-item-spec =

@@ -17,7 +17,9 @@ returns : tie.Need-returns
 returns c =
     let at-read = c .before in
     let at-entry = at-read .before .before in
-    passed-turned (now (at-entry .args .text)) (at-entry .args .at) (withAccName (at-entry .args .head)) _ accName _ (at-read .read-acc-name .ensures) (c .turn-passed .ensures)
+    let text = now (at-entry .args .text) in
+    let args = at-entry .args in
+    passed-turned text (args .at) (withAccName (args .head)) _ accName _ (at-read .read-acc-name .ensures) (c .turn-passed .ensures)
 
 pub take-acc-name-spec : {M : Type 1} → statement M
 take-acc-name-spec =

@@ -11,7 +11,9 @@ pass-hints-requires c κs = search needs
 returns : tie.Need-returns
 returns c =
     let at-entry = c .before .before in
-    hints-go (now (at-entry .args .text)) (at-entry .args .at) (at-entry .args .ints) (at-entry .args .texts) (at-entry .args .head) _ (c .pass-hints .ensures)
+    let text = now (at-entry .args .text) in
+    let args = at-entry .args in
+    hints-go text (args .at) (args .ints) (args .texts) (args .head) _ (c .pass-hints .ensures)
 
 pub take-hints-spec : {M : Type 1} → statement M
 take-hints-spec =

@@ -25,14 +25,20 @@ returns c =
     let at-arm = c .before .before in
     let at-read = at-arm .before .before .before in
     let at-entry = at-read .before .before in
-    marks-stop (now (at-entry .args .text)) (at-entry .args .at) (at-entry .args .head) (at-read .read-marks .result) (at-read .read-marks .ensures) _ _ _ (at-arm .end .given .1) (c .turn-refused .ensures)
+    let text = now (at-entry .args .text) in
+    let args = at-entry .args in
+    let marks = at-read .read-marks in
+    marks-stop text (args .at) (args .head) (marks .result) (marks .ensures) _ _ _ (at-arm .end .given .1) (c .turn-refused .ensures)
 
 returns-2 : tie.Need-returns-2
 returns-2 c =
     let at-arm = c .before .before in
     let at-read = at-arm .before .before .before in
     let at-entry = at-read .before .before in
-    rw (c .with-marks .ensures) (marks-go (now (at-entry .args .text)) (at-entry .args .at) (at-entry .args .head) (at-read .read-marks .result) (at-read .read-marks .ensures) _ _ _ (at-arm .end2 .given .1))
+    let text = now (at-entry .args .text) in
+    let args = at-entry .args in
+    let marks = at-read .read-marks in
+    rw (c .with-marks .ensures) (marks-go text (args .at) (args .head) (marks .result) (marks .ensures) _ _ _ (at-arm .end2 .given .1))
 
 pub take-marks-spec : {M : Type 1} → statement M
 take-marks-spec =

@@ -17,7 +17,9 @@ returns : tie.Need-returns
 returns c =
     let at-read = c .before in
     let at-entry = at-read .before .before in
-    passed-turned (now (at-entry .args .text)) (at-entry .args .at) (withName (at-entry .args .head)) _ nameText _ (at-read .read-name .ensures) (c .turn-passed .ensures)
+    let text = now (at-entry .args .text) in
+    let args = at-entry .args in
+    passed-turned text (args .at) (withName (args .head)) _ nameText _ (at-read .read-name .ensures) (c .turn-passed .ensures)
 
 pub take-name-spec : {M : Type 1} → statement M
 take-name-spec =

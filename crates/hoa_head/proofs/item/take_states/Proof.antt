@@ -25,14 +25,18 @@ returns c =
     let at-arm = c .before .before in
     let at-read = at-arm .before .before in
     let at-entry = at-read .before .before in
-    states-stop (now (at-entry .args .text)) (at-entry .args .at) (at-entry .args .head) _ _ _ _ (at-arm .number .given .1) (at-read .read-states .ensures) (c .turn-refused .ensures)
+    let text = now (at-entry .args .text) in
+    let args = at-entry .args in
+    states-stop text (args .at) (args .head) _ _ _ _ (at-arm .number .given .1) (at-read .read-states .ensures) (c .turn-refused .ensures)
 
 returns-2 : tie.Need-returns-2
 returns-2 c =
     let at-arm = c .before .before in
     let at-read = at-arm .before .before in
     let at-entry = at-read .before .before in
-    rw (c .with-numbers .ensures) (states-go (now (at-entry .args .text)) (at-entry .args .at) (at-entry .args .head) _ _ _ (at-arm .value .given .1) (at-read .read-states .ensures))
+    let text = now (at-entry .args .text) in
+    let args = at-entry .args in
+    rw (c .with-numbers .ensures) (states-go text (args .at) (args .head) _ _ _ (at-arm .value .given .1) (at-read .read-states .ensures))
 
 pub take-states-spec : {M : Type 1} → statement M
 take-states-spec =

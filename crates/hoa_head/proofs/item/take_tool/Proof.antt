@@ -17,7 +17,9 @@ returns : tie.Need-returns
 returns c =
     let at-read = c .before in
     let at-entry = at-read .before .before in
-    passed-turned (now (at-entry .args .text)) (at-entry .args .at) (withTool (at-entry .args .head)) _ toolText _ (at-read .read-tool .ensures) (c .turn-passed .ensures)
+    let text = now (at-entry .args .text) in
+    let args = at-entry .args in
+    passed-turned text (args .at) (withTool (args .head)) _ toolText _ (at-read .read-tool .ensures) (c .turn-passed .ensures)
 
 pub take-tool-spec : {M : Type 1} → statement M
 take-tool-spec =

@@ -49,19 +49,22 @@ sub-alike-2 : tie.Need-sub-alike-2 Inv-loop μ-loop
 sub-alike-2 c =
     let at-loop = c .before .before .before .before in
     let at-entry = at-loop .before .before in
-    omega (arith, at-entry .pre .0 .order (at-loop .loop .i - 1) (omega arith), at-entry .pre .0 .within (at-loop .loop .i - 1) (omega arith))
+    let l = at-loop .loop in
+    omega (arith, at-entry .pre .0 .order (l .i - 1) (omega arith), at-entry .pre .0 .within (l .i - 1) (omega arith))
 
 part-alike-start-2 : tie.Need-part-alike-start-2 Inv-loop μ-loop
 part-alike-start-2 c =
     let at-loop = c .before .before .before .before in
     let at-entry = at-loop .before .before in
-    omega (arith, at-entry .pre .0 .order (at-loop .loop .i - 1) (omega arith), at-entry .pre .0 .within (at-loop .loop .i - 1) (omega arith))
+    let l = at-loop .loop in
+    omega (arith, at-entry .pre .0 .order (l .i - 1) (omega arith), at-entry .pre .0 .within (l .i - 1) (omega arith))
 
 part-alike-end-2 : tie.Need-part-alike-end-2 Inv-loop μ-loop
 part-alike-end-2 c =
     let at-loop = c .before .before .before .before in
     let at-entry = at-loop .before .before in
-    omega (arith, at-entry .pre .0 .order (at-loop .loop .i - 1) (omega arith), at-entry .pre .0 .within (at-loop .loop .i - 1) (omega arith))
+    let l = at-loop .loop in
+    omega (arith, at-entry .pre .0 .order (l .i - 1) (omega arith), at-entry .pre .0 .within (l .i - 1) (omega arith))
 
 alike-requires : tie.Need-alike-requires Inv-loop μ-loop
 alike-requires c κs = search needs
@@ -72,7 +75,11 @@ returns c =
     let at-test = at-call .before .before .before .before .before in
     let at-loop = at-test .before in
     let at-entry = at-loop .before .before in
-    sym (at-loop .loop .inv .1 ∙ came-hit (part (now (at-entry .args .text)) (at-entry .args .a) (at-entry .args .b)) (now (at-entry .args .text)) (now (at-entry .args .from)) (now (at-entry .args .to)) (at-loop .loop .i) (at-test .loop-test .taken) (sym (at-call .alike .ensures) ∙ c .if1 .taken))
+    let text = now (at-entry .args .text) in
+    let args = at-entry .args in
+    let l = at-loop .loop in
+    let hit = sym (at-call .alike .ensures) ∙ c .if1 .taken in
+    sym (l .inv .1 ∙ came-hit (part text (args .a) (args .b)) text (now (args .from)) (now (args .to)) (l .i) (at-test .loop-test .taken) hit)
 
 loop-less : tie.Need-loop-less Inv-loop μ-loop
 loop-less c = search needs
@@ -83,13 +90,20 @@ loop-again c =
     let at-test = at-call .before .before .before .before .before in
     let at-loop = at-test .before in
     let at-entry = at-loop .before .before in
-    (omega arith, at-loop .loop .inv .1 ∙ came-miss (part (now (at-entry .args .text)) (at-entry .args .a) (at-entry .args .b)) (now (at-entry .args .text)) (now (at-entry .args .from)) (now (at-entry .args .to)) (at-loop .loop .i) (at-test .loop-test .taken) (sym (at-call .alike .ensures) ∙ c .if1 .left))
+    let text = now (at-entry .args .text) in
+    let args = at-entry .args in
+    let l = at-loop .loop in
+    let miss = sym (at-call .alike .ensures) ∙ c .if1 .left in
+    (omega arith, l .inv .1 ∙ came-miss (part text (args .a) (args .b)) text (now (args .from)) (now (args .to)) (l .i) (at-test .loop-test .taken) miss)
 
 returns-2 : tie.Need-returns-2 Inv-loop μ-loop
 returns-2 c =
     let at-loop = c .before in
     let at-entry = at-loop .before .before in
-    sym (at-loop .loop .inv .1 ∙ came-none (part (now (at-entry .args .text)) (at-entry .args .a) (at-entry .args .b)) (now (at-entry .args .text)) (now (at-entry .args .from)) (now (at-entry .args .to)) (at-loop .loop .i) (c .loop-test .left))
+    let text = now (at-entry .args .text) in
+    let args = at-entry .args in
+    let l = at-loop .loop in
+    sym (l .inv .1 ∙ came-none (part text (args .a) (args .b)) text (now (args .from)) (now (args .to)) (l .i) (c .loop-test .left))
 
 pub name-came-spec : {M : Type 1} → statement M
 name-came-spec =

@@ -18,14 +18,18 @@ returns c =
     let at-test = c .before in
     let at-look = at-test .before in
     let at-entry = at-look .before .before in
-    over-text (now (at-entry .args .text)) (at-entry .args .at) (at-look .look .result) (at-look .look .ensures) (at-entry .pre) (sym (at-test .is-text .ensures) ∙ c .if1 .taken)
+    let text = now (at-entry .args .text) in
+    let spot = at-look .look in
+    over-text text (at-entry .args .at) (spot .result) (spot .ensures) (at-entry .pre) (sym (at-test .is-text .ensures) ∙ c .if1 .taken)
 
 returns-2 : tie.Need-returns-2
 returns-2 c =
     let at-test = c .before in
     let at-look = at-test .before in
     let at-entry = at-look .before .before in
-    over-not (now (at-entry .args .text)) (at-entry .args .at) (at-look .look .result) (at-look .look .ensures) (at-entry .pre) (sym (at-test .is-text .ensures) ∙ c .if1 .left)
+    let text = now (at-entry .args .text) in
+    let spot = at-look .look in
+    over-not text (at-entry .args .at) (spot .result) (spot .ensures) (at-entry .pre) (sym (at-test .is-text .ensures) ∙ c .if1 .left)
 
 pub names-over-spec : {M : Type 1} → statement M
 names-over-spec =

@@ -17,12 +17,15 @@ abbrev μ-loop : tie.MeasureT-loop
 loop-holds : tie.Need-loop-holds Inv-loop μ-loop
 loop-holds c =
     let at-entry = c .before in
-    names-none (now (at-entry .args .text)) (at-entry .args .at) (at-entry .args .count) _ _ refl refl (at-entry .pre .1)
+    let text = now (at-entry .args .text) in
+    let args = at-entry .args in
+    names-none text (args .at) (args .count) _ _ refl refl (at-entry .pre .1)
 
 read-one-requires : tie.Need-read-one-requires Inv-loop μ-loop
 read-one-requires c κs =
     let at-loop = c .before .before .before in
-    (at-loop .loop .inv .spans, at-loop .loop .inv .within)
+    let l = at-loop .loop in
+    (l .inv .spans, l .inv .within)
 
 enum-known-number : tie.Need-enum-known-number Inv-loop μ-loop
 enum-known-number c = search needs
@@ -34,7 +37,11 @@ returns c =
     let at-test = at-call .before .before .before in
     let at-loop = at-test .before in
     let at-entry = at-loop .before .before in
-    name-stops (now (at-entry .args .text)) (at-entry .args .at) (at-entry .args .count) (at-loop .loop .from) (at-loop .loop .to) (at-loop .loop .next) (at-loop .loop .i) (at-loop .loop .inv) _ _ (at-test .loop-test .taken) (rw (at-arm .number .given .1) at (at-call .read-one .ensures))
+    let text = now (at-entry .args .text) in
+    let args = at-entry .args in
+    let l = at-loop .loop in
+    name-stops text (args .at) (args .count) (l .from) (l .to) (l .next) (l .i) (l .inv) _ _ (at-test .loop-test .taken)
+    (rw (at-arm .number .given .1) at (at-call .read-one .ensures))
 
 enum-known-a : tie.Need-enum-known-a Inv-loop μ-loop
 enum-known-a c = search needs
@@ -64,7 +71,11 @@ loop-again c =
     let at-test = at-call .before .before .before in
     let at-loop = at-test .before in
     let at-entry = at-loop .before .before in
-    name-goes (now (at-entry .args .text)) (at-entry .args .at) (at-entry .args .count) (at-loop .loop .from) (at-loop .loop .to) (at-loop .loop .next) (at-loop .loop .i) (at-loop .loop .inv) _ _ _ (at-test .loop-test .taken) (at-entry .pre .0) (rw (at-arm .a .given .1) at (at-call .read-one .ensures))
+    let text = now (at-entry .args .text) in
+    let args = at-entry .args in
+    let l = at-loop .loop in
+    name-goes text (args .at) (args .count) (l .from) (l .to) (l .next) (l .i) (l .inv) _ _ _ (at-test .loop-test .taken) (at-entry .pre .0)
+    (rw (at-arm .a .given .1) at (at-call .read-one .ensures))
 
 names-over-requires : tie.Need-names-over-requires Inv-loop μ-loop
 names-over-requires c κs =
@@ -76,7 +87,10 @@ returns-2 c =
     let at-test = c .before in
     let at-loop = at-test .before in
     let at-entry = at-loop .before .before in
-    names-end (now (at-entry .args .text)) (at-entry .args .at) (at-entry .args .count) (at-loop .loop .from) (at-loop .loop .to) (at-loop .loop .next) (at-loop .loop .i) (at-loop .loop .inv) _ (at-test .loop-test .left) (c .names-over .ensures)
+    let text = now (at-entry .args .text) in
+    let args = at-entry .args in
+    let l = at-loop .loop in
+    names-end text (args .at) (args .count) (l .from) (l .to) (l .next) (l .i) (l .inv) _ (at-test .loop-test .left) (c .names-over .ensures)
 
 pub read-names-spec : {M : Type 1} → statement M
 read-names-spec =

@@ -3,7 +3,7 @@
 use mathlib.Core.Path.{_∙_, sym}
 use denote.Ref.{now}
 use borrow.Author.Tests.{not-false, not-true}
-use Rattle.hoa_head.proofs.Naming.{one-came, one-goes, one-next, one-order, one-stops}
+use Rattle.hoa_head.proofs.Naming.{one-came, one-goes, one-next, one-span, one-stops}
 use native.Mathlib.Omega.{arith}
 use borrow.Author.Needs.{needs}
 use Rattle.hoa_head.proofs.names.read_one.Statement.{statement}
@@ -24,7 +24,11 @@ returns c =
     let at-test = at-taken .before in
     let at-look = at-test .before in
     let at-entry = at-look .before .before in
-    one-stops (now (at-entry .args .text)) (now (at-entry .args .from)) (now (at-entry .args .to)) (at-entry .args .at) (at-entry .args .count) (at-look .look .result) (at-look .look .ensures) _ (sym (at-test .is-text .ensures) ∙ not-true _ (at-taken .if1 .taken)) (c .unfinished .ensures) (at-entry .pre .1)
+    let text = now (at-entry .args .text) in
+    let args = at-entry .args in
+    let spot = at-look .look in
+    one-stops text (now (args .from)) (now (args .to)) (args .at) (args .count) (spot .result) (spot .ensures) _
+    (sym (at-test .is-text .ensures) ∙ not-true _ (at-taken .if1 .taken)) (c .unfinished .ensures) (at-entry .pre .1)
 
 add-a : tie.Need-add-a
 add-a c =
@@ -32,7 +36,11 @@ add-a c =
     let at-test = at-left .before in
     let at-look = at-test .before in
     let at-entry = at-look .before .before in
-    let n = one-next (now (at-entry .args .text)) (now (at-entry .args .from)) (now (at-entry .args .to)) (at-entry .args .at) (at-entry .args .count) (at-look .look .result) (at-look .look .ensures) (sym (at-test .is-text .ensures) ∙ not-false _ (at-left .if1 .left)) in
+    let text = now (at-entry .args .text) in
+    let args = at-entry .args in
+    let spot = at-look .look in
+    let e = sym (at-test .is-text .ensures) ∙ not-false _ (at-left .if1 .left) in
+    let n = one-next text (now (args .from)) (now (args .to)) (args .at) (args .count) (spot .result) (spot .ensures) e in
     omega (arith, n .takes, n .within)
 
 sub-b : tie.Need-sub-b
@@ -41,7 +49,11 @@ sub-b c =
     let at-test = at-left .before in
     let at-look = at-test .before in
     let at-entry = at-look .before .before in
-    let n = one-next (now (at-entry .args .text)) (now (at-entry .args .from)) (now (at-entry .args .to)) (at-entry .args .at) (at-entry .args .count) (at-look .look .result) (at-look .look .ensures) (sym (at-test .is-text .ensures) ∙ not-false _ (at-left .if1 .left)) in
+    let text = now (at-entry .args .text) in
+    let args = at-entry .args in
+    let spot = at-look .look in
+    let e = sym (at-test .is-text .ensures) ∙ not-false _ (at-left .if1 .left) in
+    let n = one-next text (now (args .from)) (now (args .to)) (args .at) (args .count) (spot .result) (spot .ensures) e in
     omega (arith, n .takes)
 
 name-came-requires : tie.Need-name-came-requires
@@ -50,8 +62,11 @@ name-came-requires c κs =
     let at-test = at-left .before in
     let at-look = at-test .before in
     let at-entry = at-look .before .before in
+    let text = now (at-entry .args .text) in
+    let args = at-entry .args in
+    let spot = at-look .look in
     let e = sym (at-test .is-text .ensures) ∙ not-false _ (at-left .if1 .left) in
-    (at-entry .pre .0, (one-order (now (at-entry .args .text)) (now (at-entry .args .from)) (now (at-entry .args .to)) (at-entry .args .at) (at-entry .args .count) (at-look .look .result) (at-look .look .ensures) e, omega (arith, one-next (now (at-entry .args .text)) (now (at-entry .args .from)) (now (at-entry .args .to)) (at-entry .args .at) (at-entry .args .count) (at-look .look .result) (at-look .look .ensures) e .within)))
+    (at-entry .pre .0, one-span text (now (args .from)) (now (args .to)) (args .at) (args .count) (spot .result) (spot .ensures) e)
 
 returns-2 : tie.Need-returns-2
 returns-2 c =
@@ -60,7 +75,11 @@ returns-2 c =
     let at-test = at-left .before in
     let at-look = at-test .before in
     let at-entry = at-look .before .before in
-    one-came (now (at-entry .args .text)) (now (at-entry .args .from)) (now (at-entry .args .to)) (at-entry .args .at) (at-entry .args .count) (at-look .look .result) (at-look .look .ensures) (sym (at-test .is-text .ensures) ∙ not-false _ (at-left .if1 .left)) (sym (at-call .name-came .ensures) ∙ c .if2 .taken)
+    let text = now (at-entry .args .text) in
+    let args = at-entry .args in
+    let spot = at-look .look in
+    one-came text (now (args .from)) (now (args .to)) (args .at) (args .count) (spot .result) (spot .ensures)
+    (sym (at-test .is-text .ensures) ∙ not-false _ (at-left .if1 .left)) (sym (at-call .name-came .ensures) ∙ c .if2 .taken)
 
 returns-3 : tie.Need-returns-3
 returns-3 c =
@@ -69,7 +88,11 @@ returns-3 c =
     let at-test = at-left .before in
     let at-look = at-test .before in
     let at-entry = at-look .before .before in
-    one-goes (now (at-entry .args .text)) (now (at-entry .args .from)) (now (at-entry .args .to)) (at-entry .args .at) (at-entry .args .count) (at-look .look .result) (at-look .look .ensures) (sym (at-test .is-text .ensures) ∙ not-false _ (at-left .if1 .left)) (sym (at-call .name-came .ensures) ∙ c .if2 .left)
+    let text = now (at-entry .args .text) in
+    let args = at-entry .args in
+    let spot = at-look .look in
+    one-goes text (now (args .from)) (now (args .to)) (args .at) (args .count) (spot .result) (spot .ensures)
+    (sym (at-test .is-text .ensures) ∙ not-false _ (at-left .if1 .left)) (sym (at-call .name-came .ensures) ∙ c .if2 .left)
 
 pub read-one-spec : {M : Type 1} → statement M
 read-one-spec =

@@ -21,7 +21,9 @@ returns c =
     let at-arm = c .before .before in
     let at-read = at-arm .before .before in
     let at-entry = at-read .before .before in
-    props-many (now (at-entry .args .text)) (at-entry .args .at) _ _ _ (int-there (now (at-entry .args .text)) (at-entry .args .at) _ (at-arm .value .given .1) (at-read .read-int .ensures)) (c .if1 .taken)
+    let text = now (at-entry .args .text) in
+    let args = at-entry .args in
+    props-many text (args .at) _ _ _ (int-there text (args .at) _ (at-arm .value .given .1) (at-read .read-int .ensures)) (c .if1 .taken)
 
 cast-read-names : tie.Need-cast-read-names
 cast-read-names c = search needs
@@ -31,7 +33,8 @@ read-names-requires c κs =
     let at-arm = c .before .before in
     let at-read = at-arm .before .before in
     let at-entry = at-read .before .before in
-    (c .if1 .left, int-there (now (at-entry .args .text)) (at-entry .args .at) _ (at-arm .value .given .1) (at-read .read-int .ensures) .within)
+    let text = now (at-entry .args .text) in
+    (c .if1 .left, int-there text (at-entry .args .at) _ (at-arm .value .given .1) (at-read .read-int .ensures) .within)
 
 enum-known-number-2 : tie.Need-enum-known-number-2
 enum-known-number-2 c = search needs
@@ -44,7 +47,9 @@ returns-2 c =
     let at-arm = c .before in
     let at-read = at-arm .before .before in
     let at-entry = at-read .before .before in
-    props-stop (now (at-entry .args .text)) (at-entry .args .at) _ _ (int-not (now (at-entry .args .text)) (at-entry .args .at) _ (at-arm .number .given .1) (at-read .read-int .ensures)) (at-entry .pre)
+    let text = now (at-entry .args .text) in
+    let args = at-entry .args in
+    props-stop text (args .at) _ _ (int-not text (args .at) _ (at-arm .number .given .1) (at-read .read-int .ensures)) (at-entry .pre)
 
 returns-3 : tie.Need-returns-3
 returns-3 c =
@@ -54,7 +59,9 @@ returns-3 c =
     let at-arm = at-test .before .before in
     let at-read = at-arm .before .before in
     let at-entry = at-read .before .before in
-    props-wrong (now (at-entry .args .text)) (at-entry .args .at) _ _ _ (int-there (now (at-entry .args .text)) (at-entry .args .at) _ (at-arm .value .given .1) (at-read .read-int .ensures)) _ _ (at-test .if1 .left)
+    let text = now (at-entry .args .text) in
+    let args = at-entry .args in
+    props-wrong text (args .at) _ _ _ (int-there text (args .at) _ (at-arm .value .given .1) (at-read .read-int .ensures)) _ _ (at-test .if1 .left)
     (rw (at-behind .number2 .given .1) at (at-call .read-names .ensures))
 
 returns-4 : tie.Need-returns-4
@@ -65,7 +72,9 @@ returns-4 c =
     let at-arm = at-test .before .before in
     let at-read = at-arm .before .before in
     let at-entry = at-read .before .before in
-    props-end (now (at-entry .args .text)) (at-entry .args .at) _ _ _ (int-there (now (at-entry .args .text)) (at-entry .args .at) _ (at-arm .value .given .1) (at-read .read-int .ensures)) _ (at-test .if1 .left)
+    let text = now (at-entry .args .text) in
+    let args = at-entry .args in
+    props-end text (args .at) _ _ _ (int-there text (args .at) _ (at-arm .value .given .1) (at-read .read-int .ensures)) _ (at-test .if1 .left)
     (rw (at-behind .next .given .1) at (at-call .read-names .ensures))
 
 pub read-props-spec : {M : Type 1} → statement M

@@ -16,7 +16,8 @@ returns : tie.Need-returns
 returns c =
     let at-found = c .before in
     let at-entry = at-found .before .before in
-    spotted (now (at-entry .args .text)) (at-entry .args .at) (at-found .token-at .result) _ (at-found .token-at .ensures) (c .piece-of .ensures) refl refl
+    let text = now (at-entry .args .text) in
+    spotted text (at-entry .args .at) (at-found .token-at .result) _ (at-found .token-at .ensures) (c .piece-of .ensures) refl refl
 
 pub look-spec : {M : Type 1} → statement M
 look-spec =

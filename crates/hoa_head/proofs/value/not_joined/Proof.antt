@@ -18,14 +18,18 @@ returns c =
     let at-test = c .before in
     let at-look = at-test .before in
     let at-entry = at-look .before .before in
-    joined (now (at-entry .args .text)) (at-entry .args .at) (at-look .look .result) (at-look .look .ensures) (sym (at-test .is-join .ensures) ∙ c .if1 .taken) (at-entry .pre)
+    let text = now (at-entry .args .text) in
+    let spot = at-look .look in
+    joined text (at-entry .args .at) (spot .result) (spot .ensures) (sym (at-test .is-join .ensures) ∙ c .if1 .taken) (at-entry .pre)
 
 returns-2 : tie.Need-returns-2
 returns-2 c =
     let at-test = c .before in
     let at-look = at-test .before in
     let at-entry = at-look .before .before in
-    not-joined (now (at-entry .args .text)) (at-entry .args .at) (at-look .look .result) (at-look .look .ensures) (sym (at-test .is-join .ensures) ∙ c .if1 .left) (at-entry .pre)
+    let text = now (at-entry .args .text) in
+    let spot = at-look .look in
+    not-joined text (at-entry .args .at) (spot .result) (spot .ensures) (sym (at-test .is-join .ensures) ∙ c .if1 .left) (at-entry .pre)
 
 pub not-joined-spec : {M : Type 1} → statement M
 not-joined-spec =

@@ -25,14 +25,18 @@ returns c =
     let at-arm = at-fault .before .before in
     let at-read = at-arm .before .before in
     let at-entry = at-read .before .before in
-    start-wrong (now (at-entry .args .text)) (at-entry .args .at) _ _ _ (at-entry .args .states) (int-there (now (at-entry .args .text)) (at-entry .args .at) _ (at-arm .value .given .1) (at-read .read-int .ensures)) _ (at-fault .start-fault .ensures) (c .if1 .taken)
+    let text = now (at-entry .args .text) in
+    let args = at-entry .args in
+    start-wrong text (args .at) _ _ _ (args .states) (int-there text (args .at) _ (at-arm .value .given .1) (at-read .read-int .ensures)) _
+    (at-fault .start-fault .ensures) (c .if1 .taken)
 
 not-joined-requires : tie.Need-not-joined-requires
 not-joined-requires c κs =
     let at-arm = c .before .before .before in
     let at-read = at-arm .before .before in
     let at-entry = at-read .before .before in
-    int-there (now (at-entry .args .text)) (at-entry .args .at) _ (at-arm .value .given .1) (at-read .read-int .ensures) .within
+    let text = now (at-entry .args .text) in
+    int-there text (at-entry .args .at) _ (at-arm .value .given .1) (at-read .read-int .ensures) .within
 
 enum-known-number-2 : tie.Need-enum-known-number-2
 enum-known-number-2 c = search needs
@@ -45,7 +49,9 @@ returns-2 c =
     let at-arm = c .before in
     let at-read = at-arm .before .before in
     let at-entry = at-read .before .before in
-    start-stops (now (at-entry .args .text)) (at-entry .args .at) _ _ (at-entry .args .states) (int-not (now (at-entry .args .text)) (at-entry .args .at) _ (at-arm .number .given .1) (at-read .read-int .ensures)) (at-entry .pre)
+    let text = now (at-entry .args .text) in
+    let args = at-entry .args in
+    start-stops text (args .at) _ _ (args .states) (int-not text (args .at) _ (at-arm .number .given .1) (at-read .read-int .ensures)) (at-entry .pre)
 
 returns-3 : tie.Need-returns-3
 returns-3 c =
@@ -56,7 +62,9 @@ returns-3 c =
     let at-arm = at-fault .before .before in
     let at-read = at-arm .before .before in
     let at-entry = at-read .before .before in
-    start-joined (now (at-entry .args .text)) (at-entry .args .at) _ _ _ (at-entry .args .states) (int-there (now (at-entry .args .text)) (at-entry .args .at) _ (at-arm .value .given .1) (at-read .read-int .ensures)) _ _
+    let text = now (at-entry .args .text) in
+    let args = at-entry .args in
+    start-joined text (args .at) _ _ _ (args .states) (int-there text (args .at) _ (at-arm .value .given .1) (at-read .read-int .ensures)) _ _
     (sym (at-fault .start-fault .ensures) ∙ at-test .if1 .left) (rw (at-behind .number2 .given .1) at (at-call .not-joined .ensures))
 
 returns-4 : tie.Need-returns-4
@@ -68,7 +76,9 @@ returns-4 c =
     let at-arm = at-fault .before .before in
     let at-read = at-arm .before .before in
     let at-entry = at-read .before .before in
-    start-over (now (at-entry .args .text)) (at-entry .args .at) _ _ _ (at-entry .args .states) (int-there (now (at-entry .args .text)) (at-entry .args .at) _ (at-arm .value .given .1) (at-read .read-int .ensures)) _
+    let text = now (at-entry .args .text) in
+    let args = at-entry .args in
+    start-over text (args .at) _ _ _ (args .states) (int-there text (args .at) _ (at-arm .value .given .1) (at-read .read-int .ensures)) _
     (sym (at-fault .start-fault .ensures) ∙ at-test .if1 .left) (rw (at-behind .next .given .1) at (at-call .not-joined .ensures))
 
 pub read-start-spec : {M : Type 1} → statement M

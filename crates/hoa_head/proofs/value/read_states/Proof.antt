@@ -26,7 +26,9 @@ returns c =
     let at-arm = c .before in
     let at-read = at-arm .before .before in
     let at-entry = at-read .before .before in
-    states-stops (now (at-entry .args .text)) (at-entry .args .at) _ _ (at-entry .args .start) (int-not (now (at-entry .args .text)) (at-entry .args .at) _ (at-arm .number .given .1) (at-read .read-int .ensures)) (at-entry .pre)
+    let text = now (at-entry .args .text) in
+    let args = at-entry .args in
+    states-stops text (args .at) _ _ (args .start) (int-not text (args .at) _ (at-arm .number .given .1) (at-read .read-int .ensures)) (at-entry .pre)
 
 returns-2 : tie.Need-returns-2
 returns-2 c =
@@ -34,7 +36,9 @@ returns-2 c =
     let at-arm = at-fault .before .before in
     let at-read = at-arm .before .before in
     let at-entry = at-read .before .before in
-    states-goes (now (at-entry .args .text)) (at-entry .args .at) _ _ _ (at-entry .args .start) _ (int-there (now (at-entry .args .text)) (at-entry .args .at) _ (at-arm .value .given .1) (at-read .read-int .ensures))
+    let text = now (at-entry .args .text) in
+    let args = at-entry .args in
+    states-goes text (args .at) _ _ _ (args .start) _ (int-there text (args .at) _ (at-arm .value .given .1) (at-read .read-int .ensures))
     (rw (at-fault .states-fault .ensures) at (c .unless-fault .ensures))
 
 pub read-states-spec : {M : Type 1} → statement M

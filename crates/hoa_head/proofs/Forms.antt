@@ -1,23 +1,21 @@
 -- The formula inside the header: the header's machine goes as the formula's does, and behind a whole formula as where an item may begin. Assumes nothing.
-use mathlib.Core.Path.{_≡_, refl, sym, ap, _∙_}
-use mathlib.Core.Bool.{Bool, true, false}
+use mathlib.Core.Path.{_≡_, refl, ap, _∙_}
 use mathlib.Core.List.{List, [], _∷_}
 use Prim.Native.Nat.{ℕ, _≤_, _<_}
 use native.Mathlib.Omega.{arith}
-use lib.Dec.{ltb}
 use lib.ListN.{length}
 use borrow.Author.Tests.{lt-ltb, le-ltb}
 use Rattle.table.specs.declared.Acceptance.{Acceptance}
-use Rattle.hoa_tokens.specs.Token.{Token, int}
-use Rattle.hoa_tokens.specs.Stream.{Placed, placed, tokensAt}
+use Rattle.hoa_tokens.specs.Token.{int}
+use Rattle.hoa_tokens.specs.Stream.{Placed, tokensAt}
 use Rattle.hoa_formula.specs.Formulas as formula
-use Rattle.hoa_formula.specs.Standard.{FormulaMeaning, standard, short}
+use Rattle.hoa_formula.specs.Standard.{standard, short}
 use Rattle.hoa_formula.specs.Formulas.{FormulaState, formulaBegin, formulaStep, formulaRun, FormulaStep, FormulaEnd, onward}
 use Rattle.hoa_formula.specs.declared.FormulaRead.{FormulaRead}
 use Rattle.hoa_formula.specs.declared.FormulaFound.{FormulaFound}
 use Rattle.hoa_formula.specs.declared.FormulaFound.the-variants as found-is
 use Rattle.hoa_formula.specs.Reading.{foundSays, foundPlace, FormulaAt}
-use Rattle.hoa_step.specs.Machine.{Step, go, wrong, End, wrongAt, cut, endBy, run, wantsInt}
+use Rattle.hoa_step.specs.Machine.{go, wrong, End, wrongAt, cut, endBy, run, wantsInt}
 use Rattle.hoa_step.specs.Wanted.{Next, Faulty, intFault}
 use Rattle.hoa_step.proofs.Runs.{first-goes, first-wrong, int-wrong, faulty-within}
 use Rattle.hoa_head.specs.declared.Head.{Head}
@@ -25,7 +23,7 @@ use Rattle.hoa_head.specs.declared.token.Spot.{Spot}
 use Rattle.hoa_head.specs.declared.formed.Formed.{Formed}
 use Rattle.hoa_head.specs.declared.formed.FormedEnd.the-variants as formed
 use Rattle.hoa_head.specs.Head.{mostMarks, withMarks}
-use Rattle.hoa_head.specs.Heading.{HeadState, items, marksInt, inFormula, headStep, pieceOf, onFormula, onMarks, behindFormula}
+use Rattle.hoa_head.specs.Heading.{items, marksInt, inFormula, headStep, pieceOf, onFormula, onMarks, behindFormula}
 use Rattle.hoa_head.specs.inner.Pieces.{Spotted, unfinishedNumber}
 use Rattle.hoa_head.specs.inner.Turns.{MarksRead}
 use Rattle.hoa_head.proofs.Pieces.{unfinished-is}

@@ -1,8 +1,8 @@
 -- What stands behind the header of an item, and the items one after the other. Assumes nothing.
-use mathlib.Core.Path.{_≡_, refl, sym, ap, _∙_}
-use mathlib.Core.Bool.{Bool, true, false, cond, not, _||_}
-use mathlib.Core.List.{List, [], _∷_}
-use Prim.Native.Nat.{ℕ, _+_, _≤_, _<_}
+use mathlib.Core.Path.{_≡_, refl, _∙_}
+use mathlib.Core.Bool.{Bool, true, false, not, _||_}
+use mathlib.Core.List.{List}
+use Prim.Native.Nat.{ℕ, _+_, _≤_}
 use native.Mathlib.Omega.{arith}
 use lib.ListN.{length}
 use Rattle.hoa_tokens.specs.declared.Header.{Header}
@@ -10,7 +10,7 @@ use Rattle.hoa_tokens.specs.declared.Header.the-variants as header-is
 use Rattle.hoa_tokens.specs.Stream.{tokensAt}
 use Rattle.hoa_tokens.proofs.Sizes.{byTest}
 use Rattle.hoa_step.specs.Given.{isGiven}
-use Rattle.hoa_step.specs.Machine.{go, done, wrong, End, doneAt, wrongAt, endBy, run}
+use Rattle.hoa_step.specs.Machine.{go, wrong, wrongAt, endBy, run}
 use Rattle.hoa_step.proofs.Runs.{first-is, first-wrong}
 use Rattle.hoa_head.specs.declared.Head.{Head}
 use Rattle.hoa_head.specs.declared.Piece.{Piece}
@@ -28,10 +28,10 @@ use Rattle.hoa_head.specs.declared.item.HeadTurn.{HeadTurn}
 use Rattle.hoa_head.specs.declared.HeadRead.{HeadRead}
 use Rattle.hoa_head.specs.declared.HeadEnd.the-variants as head-end
 use Rattle.hoa_head.specs.Head.{blank, withStates, withStart, withProps, withMarks, withAccName, withTool, withName}
-use Rattle.hoa_head.specs.Heading.{HeadState, items, statesInt, startInt, propsInt, marksInt, accName, toolText, nameText, hints, headStep, onItem, onBody, onPiece, pieceOf}
-use Rattle.hoa_head.specs.Headed.{Headed, Ends, headEnd}
-use Rattle.hoa_head.specs.inner.Pieces.{Spotted, known}
-use Rattle.hoa_head.specs.inner.Turns.{countedEnd, CountedIn, StatesRead, StartRead, PropsRead, Passes, HintsPassed, OpeningRead, MarksRead, turnEnd, TurnIn}
+use Rattle.hoa_head.specs.Heading.{HeadState, items, statesInt, startInt, propsInt, marksInt, accName, toolText, nameText, hints, headStep, onItem, onBody, onPiece}
+use Rattle.hoa_head.specs.Headed.{Headed, headEnd}
+use Rattle.hoa_head.specs.inner.Pieces.{Spotted}
+use Rattle.hoa_head.specs.inner.Turns.{StatesRead, StartRead, PropsRead, Passes, HintsPassed, OpeningRead, MarksRead, turnEnd, TurnIn}
 use Rattle.hoa_head.specs.inner.Turns.{refusedTurn, passedTurn, bodyTurn, Turned, Opened, second, refusedRead, ItemsRead}
 
 -- ---- where reading goes on, and where it is refused

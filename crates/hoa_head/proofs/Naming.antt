@@ -1,19 +1,18 @@
 -- The names of AP:: what one more does, what the token behind them does, and where each stands. Assumes nothing.
-use mathlib.Core.Path.{_≡_, refl, sym, ap, _∙_}
-use mathlib.Core.Bool.{Bool, true, false, cond, _||_}
+use mathlib.Core.Path.{_≡_, refl, ap, _∙_}
+use mathlib.Core.Bool.{true, false, _||_}
 use mathlib.Core.List.{List, [], _∷_}
 use Prim.Native.Nat.{ℕ, zero, suc, _+_, _-_, _≤_, _<_}
 use native.Mathlib.Omega.{arith}
 use native.Mathlib.Numerals.{add-one}
-use lib.Dec.{eqb, ltb, leb}
 use lib.ListN.{length, getD, set, length-set}
 use lib.Seq.{getD-set-same, getD-set-other}
 use borrow.Author.Tests.{lt-ltb, le-ltb, le-leb, lt-leb}
 use Rattle.marks.proofs.Cases.{same as equal}
 use Rattle.hoa_tokens.specs.Bytes.{same}
-use Rattle.hoa_tokens.specs.Token.{Token, int, str}
+use Rattle.hoa_tokens.specs.Token.{int, str}
 use Rattle.hoa_tokens.specs.Stream.{tokensAt, part}
-use Rattle.hoa_step.specs.Machine.{go, wrong, wrongAt, run, wantsInt}
+use Rattle.hoa_step.specs.Machine.{run, wantsInt}
 use Rattle.hoa_step.specs.Wanted.{Next, Faulty, intFault}
 use Rattle.hoa_step.proofs.Runs.{first-goes, first-wrong, first-same, int-wrong, faulty-within}
 use Rattle.hoa_head.specs.declared.Head.{Head}
@@ -22,8 +21,8 @@ use Rattle.hoa_head.specs.declared.hint.Passed.{Passed}
 use Rattle.hoa_head.specs.declared.hint.Passed.the-variants as passed
 use Rattle.hoa_head.specs.declared.value.Counted.the-variants as counted
 use Rattle.hoa_head.specs.declared.names.NameRead.the-variants as name-read
-use Rattle.hoa_head.specs.Head.{mostProps, withProps}
-use Rattle.hoa_head.specs.Heading.{HeadState, items, propsInt, names, headStep, onNames, onProps, nameCame, behindNames}
+use Rattle.hoa_head.specs.Head.{mostProps}
+use Rattle.hoa_head.specs.Heading.{propsInt, names, headStep, onNames, onProps, nameCame}
 use Rattle.hoa_head.specs.inner.Pieces.{Spotted, isText, unfinishedNumber}
 use Rattle.hoa_head.specs.inner.Turns.{PropsRead}
 use Rattle.hoa_head.specs.inner.Names.{nameList, Spans, OneName, NamesOver, NamesRead}

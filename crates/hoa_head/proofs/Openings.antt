@@ -1,10 +1,8 @@
 -- `HOA: v1`: the fault of a token by its kind, and what the machine does. Assumes nothing.
-use mathlib.Core.Path.{_≡_, refl, sym, ap, _∙_}
-use mathlib.Core.Bool.{Bool, true, false, cond}
-use mathlib.Core.List.{List, [], _∷_}
-use Prim.Native.Nat.{ℕ, _≤_}
+use mathlib.Core.Path.{_≡_, refl, _∙_}
+use mathlib.Core.List.{List}
+use Prim.Native.Nat.{ℕ}
 use native.Mathlib.Omega.{arith}
-use lib.ListN.{length}
 use borrow.Author.Tests.{ne-eqb}
 use Rattle.hoa_tokens.specs.declared.Kind.{Kind}
 use Rattle.hoa_tokens.specs.declared.Kind.the-variants as kind-is
@@ -13,16 +11,15 @@ use Rattle.hoa_tokens.specs.declared.Header.the-variants as header-is
 use Rattle.hoa_tokens.specs.declared.Word.{Word}
 use Rattle.hoa_tokens.specs.declared.Word.the-variants as word-is
 use Rattle.hoa_tokens.specs.declared.Found.{Found}
-use Rattle.hoa_tokens.specs.Token.{Token}
-use Rattle.hoa_tokens.specs.Stream.{Placed, placed, tokensAt, tokenOf, TokenAt}
+use Rattle.hoa_tokens.specs.Stream.{tokensAt, tokenOf, TokenAt}
 use Rattle.hoa_tokens.proofs.Next.{tokens-next}
-use Rattle.hoa_step.specs.Machine.{go, wrong, wrongAt, run}
+use Rattle.hoa_step.specs.Machine.{run}
 use Rattle.hoa_step.specs.Wanted.{Next}
 use Rattle.hoa_step.proofs.Runs.{first-goes, first-wrong}
 use Rattle.hoa_step.proofs.Wants.{found-next}
 use Rattle.hoa_head.specs.declared.hint.Passed.the-variants as passed
 use Rattle.hoa_head.specs.Head.{blank}
-use Rattle.hoa_head.specs.Heading.{HeadState, opening, version, items, headStep, openingHeader, onOpening, versionWord, onVersion}
+use Rattle.hoa_head.specs.Heading.{opening, version, items, headStep, openingHeader, onOpening, versionWord, onVersion}
 use Rattle.hoa_head.specs.inner.Pieces.{openingFault, openingKind, versionFault, versionKind}
 use Rattle.hoa_head.specs.inner.Turns.{OpeningRead}
 use Rattle.hoa_head.proofs.Spots.{unless-kind}

@@ -1,13 +1,13 @@
 -- What is passed over: words, INTs and STRINGs, and where it ends. Assumes nothing.
-use mathlib.Core.Path.{_≡_, refl, sym, ap, _∙_}
+use mathlib.Core.Path.{_≡_, refl, _∙_}
 use mathlib.Core.Bool.{Bool, true, false}
-use mathlib.Core.List.{List, [], _∷_}
+use mathlib.Core.List.{List}
 use Prim.Native.Nat.{ℕ, _-_, _≤_, _<_}
 use native.Mathlib.Omega.{arith}
 use lib.ListN.{length}
-use Rattle.hoa_tokens.specs.Token.{Token, str}
+use Rattle.hoa_tokens.specs.Token.{Token}
 use Rattle.hoa_tokens.specs.Stream.{tokensAt}
-use Rattle.hoa_step.specs.Machine.{go, wrong, wrongAt, run, wantsText}
+use Rattle.hoa_step.specs.Machine.{run, wantsText}
 use Rattle.hoa_step.specs.declared.TextRead.{TextRead}
 use Rattle.hoa_step.specs.declared.TextRead.the-variants as text-read
 use Rattle.hoa_step.specs.Wanted.{Next, Faulty, Quoted, textFault, TextReads}

@@ -1,28 +1,25 @@
 -- What the promise means: it allows one header and one refusal (`one-header`), and the header of a text always ends (`never-cut`). Assumes nothing.
-use mathlib.Core.Path.{_≡_, refl, sym, ap, _∙_}
-use mathlib.Core.Bool.{Bool, true, false, cond}
-use mathlib.Core.List.{List, [], _∷_}
+use mathlib.Core.Path.{_≡_, refl, sym, _∙_}
+use mathlib.Core.List.{List}
 use Prim.Native.Nat.{ℕ, zero, suc}
 use native.Mathlib.Omega.{arith}
-use lib.Dec.{ltb, leb}
+use lib.Dec.{ltb}
 use lib.ListN.{length}
 use Rattle.hoa_tokens.specs.Token.{finish}
 use Rattle.hoa_tokens.specs.Stream.{tokensAt}
 use Rattle.hoa_tokens.proofs.Sizes.{byTest}
 use Rattle.hoa_formula.specs.Formulas as formula
-use Rattle.hoa_formula.specs.Formulas.{FormulaState, FormulaStep, formulaStep, freeStep, limited, onStage, Stage, tooMany, meaningOf, ends, pieceOf as formulaPiece}
-use Rattle.hoa_formula.specs.Standard.{FormulaMeaning, standard, short}
-use Rattle.hoa_formula.specs.Machines.{Wants, Behind}
-use Rattle.hoa_step.specs.Machine.{Step, go, done, wrong, End, doneAt, wrongAt, cut, wantsInt, wantsText}
+use Rattle.hoa_formula.specs.Formulas.{FormulaState, FormulaStep, formulaStep, freeStep, limited, onStage, Stage, ends, pieceOf as formulaPiece}
+use Rattle.hoa_formula.specs.Standard.{standard, short}
+use Rattle.hoa_step.specs.Machine.{go, wrong, End, doneAt, wrongAt, cut, wantsInt, wantsText}
 use Rattle.hoa_step.proofs.Finishes as finishes
 use Rattle.hoa_head.specs.declared.Head.{Head}
 use Rattle.hoa_head.specs.declared.HeadEnd.{HeadEnd}
 use Rattle.hoa_head.specs.declared.HeadEnd.the-variants.{Body, Refused}
 use Rattle.hoa_head.specs.declared.HeadRead.{HeadRead}
-use Rattle.hoa_head.specs.Head.{withProps}
 use Rattle.hoa_head.specs.Heading.{HeadState, opening, version, items, statesInt, startInt, propsInt, marksInt, startMore, names, inFormula}
 use Rattle.hoa_head.specs.Heading.{accName, toolText, toolMore, nameText, hints}
-use Rattle.hoa_head.specs.Heading.{headStep, pieceOf, onOpening, onVersion, onNames, behindFormula, onFormula, unfinished, onPiece}
+use Rattle.hoa_head.specs.Heading.{headStep, pieceOf, onOpening, onVersion, onNames, onFormula}
 use Rattle.hoa_head.specs.Headed.{Headed, Ends, headEnd}
 
 -- ---- two results that are allowed

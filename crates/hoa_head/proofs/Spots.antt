@@ -1,13 +1,13 @@
 -- The first token from a place on: what it is where the header stands, and that a STRING takes two bytes at least, its quotes. Assumes nothing.
 use mathlib.Core.Path.{_≡_, refl, sym, ap, _∙_}
-use mathlib.Core.Bool.{Bool, true, false, false≢true, cond}
+use mathlib.Core.Bool.{true, false≢true}
 use mathlib.Core.List.{List, [], _∷_}
 use mathlib.Core.Option.{Option, some, none}
 use Prim.{Unit, tt}
-use Prim.Native.Nat.{ℕ, zero, suc, _+_, _-_, _≤_}
+use Prim.Native.Nat.{ℕ, zero, _+_, _-_, _≤_}
 use native.Mathlib.Omega.{arith}
 use lib.Dec.{eqb}
-use lib.ListN.{length, getD, take, drop}
+use lib.ListN.{getD, take, drop}
 use Rattle.hoa_tokens.specs.declared.Kind.{Kind}
 use Rattle.hoa_tokens.specs.declared.Kind.the-variants as kind-is
 use Rattle.hoa_tokens.specs.declared.Header.{Header}
@@ -16,13 +16,12 @@ use Rattle.hoa_tokens.specs.declared.Sign.{Sign}
 use Rattle.hoa_tokens.specs.declared.Sign.the-variants as sign-is
 use Rattle.hoa_tokens.specs.declared.Found.{Found}
 use Rattle.hoa_tokens.specs.Bytes.{bytes, isDigit, isLetter, isName, run}
-use Rattle.hoa_tokens.specs.Token.{Token, int, word, header, str, aname, sign, body, end, abort, finish, bad, Taken}
-use Rattle.hoa_tokens.specs.Token.{isInt, digits, number, named, quoted, closed, at as aliased, begins, fixed, signOf, single, front}
-use Rattle.hoa_tokens.specs.Stream.{Gap, gap, unclosed, lost, gapOf, Placed, placed, firstOf, first, unlessFinished, tokensAt, tokenOf, TokenAt, part}
+use Rattle.hoa_tokens.specs.Token.{Token, int, word, header, str, aname, sign, body, end, abort, finish, bad}
+use Rattle.hoa_tokens.specs.Token.{isInt, number, named, quoted, closed, at as aliased, begins, fixed, signOf, single, front}
+use Rattle.hoa_tokens.specs.Stream.{Gap, gap, unclosed, lost, gapOf, Placed, firstOf, first, unlessFinished, tokensAt, tokenOf, TokenAt, part}
 use Rattle.hoa_tokens.proofs.Sizes.{byTest}
 use Rattle.hoa_tokens.proofs.Next.{tokens-next}
 use Rattle.hoa_step.proofs.Wants.{found-next}
-use Rattle.hoa_head.specs.declared.Piece.{Piece}
 use Rattle.hoa_head.specs.declared.Piece.the-variants as piece-is
 use Rattle.hoa_head.specs.declared.token.Spot.{Spot}
 use Rattle.hoa_head.specs.Heading.{pieceHeader, pieceSign, pieceOf}

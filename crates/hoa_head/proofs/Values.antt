@@ -1,18 +1,18 @@
 -- The INTs of States: and Start:, and that no `&` stands behind the latter. Assumes nothing.
-use mathlib.Core.Path.{_≡_, refl, sym, ap, _∙_}
+use mathlib.Core.Path.{_≡_, refl, _∙_}
 use mathlib.Core.Bool.{Bool, true, false, cond, _||_}
-use mathlib.Core.List.{List, [], _∷_}
-use Prim.Native.Nat.{ℕ, _≤_, _<_}
+use mathlib.Core.List.{List}
+use Prim.Native.Nat.{ℕ, _≤_}
 use native.Mathlib.Omega.{arith}
 use lib.Dec.{eqb, ltb, leb}
 use lib.ListN.{length}
-use borrow.Author.Tests.{ne-eqb, eq-eqb}
-use Rattle.hoa_tokens.specs.Token.{Token, int}
+use borrow.Author.Tests.{ne-eqb}
+use Rattle.hoa_tokens.specs.Token.{int}
 use Rattle.hoa_tokens.specs.Stream.{tokensAt}
 use Rattle.hoa_tokens.proofs.Sizes.{byTest}
 use Rattle.hoa_step.specs.declared.Given.{Given}
 use Rattle.hoa_step.specs.Given.{notBelow, notAbove}
-use Rattle.hoa_step.specs.Machine.{Step, go, wrong, End, wrongAt, endBy, run, wantsInt}
+use Rattle.hoa_step.specs.Machine.{go, wrong, endBy, run, wantsInt}
 use Rattle.hoa_step.specs.declared.IntRead.{IntRead}
 use Rattle.hoa_step.specs.declared.IntRead.the-variants as int-read
 use Rattle.hoa_step.specs.Wanted.{Next, Faulty, intFault, IntReads}
@@ -24,7 +24,7 @@ use Rattle.hoa_head.specs.declared.value.Counted.{Counted}
 use Rattle.hoa_head.specs.declared.value.Counted.the-variants as counted
 use Rattle.hoa_head.specs.declared.hint.Passed.the-variants as passed
 use Rattle.hoa_head.specs.Head.{withStates, withStart}
-use Rattle.hoa_head.specs.Heading.{HeadState, HeadStep, items, statesInt, startInt, propsInt, marksInt, startMore, headStep, onStates, onStart, onProps, onMarks}
+use Rattle.hoa_head.specs.Heading.{HeadState, HeadStep, items, statesInt, startInt, startMore, headStep, onStates, onStart}
 use Rattle.hoa_head.specs.inner.Pieces.{Spotted, isJoin}
 use Rattle.hoa_head.specs.inner.Turns.{countedEnd, CountedIn, countedBy, statesFault, startFault, StatesRead, StartRead, Passes}
 use Rattle.hoa_head.proofs.Pieces.{join-is, join-not}

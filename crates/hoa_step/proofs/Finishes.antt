@@ -1,13 +1,13 @@
 -- The tokens of a text end with the text's end, so that a machine that never goes on behind it is never cut short (`never-cut`). Assumes nothing.
-use mathlib.Core.Path.{_≡_, refl, sym, ap, _∙_}
+use mathlib.Core.Path.{_≡_, refl}
 use mathlib.Core.List.{List, [], _∷_}
-use Prim.Native.Nat.{ℕ, zero, suc, _+_, _-_, _≤_, _<_}
+use Prim.Native.Nat.{ℕ, zero, suc, _-_, _≤_, _<_}
 use native.Mathlib.Omega.{arith}
 use lib.ListN.{length, drop, length-drop}
 use Rattle.hoa_tokens.specs.Token.{Token, int, word, header, str, aname, sign, body, end, abort, finish, bad}
 use Rattle.hoa_tokens.specs.Stream.{Placed, first, tokensAt, some, unlessFinished}
 use Rattle.hoa_tokens.proofs.Next.{Stands, over, there, stands}
-use Rattle.hoa_step.specs.Machine.{Step, go, done, wrong, End, doneAt, wrongAt, cut, endBy, run}
+use Rattle.hoa_step.specs.Machine.{Step, go, done, wrong, End, cut, endBy, run}
 
 -- the last token is the text's end
 pub data Finished : List Placed → Type 0 where

@@ -1,15 +1,15 @@
 -- What a machine does at the first token of a text: it goes on behind it, is done, or refuses it at its place. Assumes nothing.
-use mathlib.Core.Path.{_≡_, refl, sym, ap}
-use mathlib.Core.List.{List, [], _∷_}
+use mathlib.Core.Path.{_≡_, ap}
+use mathlib.Core.List.{List, _∷_}
 use mathlib.Core.Option.{Option, some}
 use Prim.Native.Nat.{ℕ, _+_, _≤_}
 use native.Mathlib.Omega.{arith}
 use lib.ListN.{length, drop, length-drop}
 use Rattle.hoa_tokens.specs.Token.{Token, int, str}
-use Rattle.hoa_tokens.specs.Stream.{Placed, placed, first, tokensAt, some as upTo, unlessFinished}
+use Rattle.hoa_tokens.specs.Stream.{Placed, placed, first, tokensAt, some as upTo}
 use Rattle.hoa_tokens.proofs.Next.{Stands, over, there, stands}
-use Rattle.hoa_step.specs.Machine.{Step, go, done, wrong, End, doneAt, wrongAt, endBy, run, wantsInt, wantsText}
-use Rattle.hoa_step.specs.Wanted.{Next, Faulty, intFault, textFault}
+use Rattle.hoa_step.specs.Machine.{Step, go, done, wrong, doneAt, wrongAt, endBy, run, wantsInt, wantsText}
+use Rattle.hoa_step.specs.Wanted.{Faulty, intFault, textFault}
 
 -- ---- where the first token is known
 

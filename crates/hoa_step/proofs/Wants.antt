@@ -1,18 +1,16 @@
 -- A token that is found where an INT or a STRING is wanted: it is one, or faulty. Assumes nothing.
-use mathlib.Core.Path.{_≡_, refl, sym, ap, _∙_}
-use mathlib.Core.List.{List, [], _∷_}
-use mathlib.Core.Option.{Option, some, none}
+use mathlib.Core.Path.{_≡_, refl, ap, _∙_}
+use mathlib.Core.List.{List}
+use mathlib.Core.Option.{Option, some}
 use Prim.Native.Nat.{ℕ, _+_, _-_}
 use native.Mathlib.Omega.{arith}
 use Rattle.hoa_tokens.specs.declared.Kind.{Kind}
 use Rattle.hoa_tokens.specs.declared.Kind.the-variants as kind-is
 use Rattle.hoa_tokens.specs.declared.Found.{Found}
 use Rattle.hoa_tokens.specs.Token.{Token, int, str}
-use Rattle.hoa_tokens.specs.Stream.{Placed, placed, tokensAt, unlessFinished, tokenOf, TokenAt, part}
+use Rattle.hoa_tokens.specs.Stream.{tokensAt, unlessFinished, tokenOf, TokenAt, part}
 use Rattle.hoa_tokens.proofs.Next.{tokens-next, token-takes}
-use Rattle.hoa_step.specs.declared.IntKind.{IntKind}
 use Rattle.hoa_step.specs.declared.IntKind.the-variants as int-kind
-use Rattle.hoa_step.specs.declared.TextKind.{TextKind}
 use Rattle.hoa_step.specs.declared.TextKind.the-variants as text-kind
 use Rattle.hoa_step.specs.Wanted.{Next, Faulty, Quoted, intFault, textFault}
 use Rattle.hoa_step.specs.inner.Kinds.{intKind, textKind}

@@ -10,7 +10,7 @@ use Rattle.hoa_head.specs.declared.hint.Passed.{Passed}
 use Rattle.hoa_head.specs.declared.names.NameRead.{NameRead}
 use Rattle.hoa_head.specs.declared.names.NameRead.the-variants as name-read
 use Rattle.hoa_head.specs.Head.{withProps}
-use Rattle.hoa_head.specs.Heading.{HeadState, items, names, headStep}
+use Rattle.hoa_head.specs.Heading.{items, names, headStep}
 use Rattle.hoa_head.specs.inner.Turns.{passedEnd, PassedIn}
 
 -- the first so many names, the last one first
@@ -31,6 +31,7 @@ abbrev pub nameEnd : List ℕ → ℕ → List (List ℕ) → Head → NameRead 
 nameEnd text a ns h (name-read.Name f t next) = run headStep (tokensAt text next) (names a (part text f t ∷ ns) h)
 nameEnd text a ns h (name-read.Refused n p) = wrongAt n p
 
+-- all of it in the text, from here on
 abbrev pub NameIn : List ℕ → ℕ → NameRead → Type 0
 NameIn text low (name-read.Name f t next) = (f ≤ t) × ((t ≤ length text) × ((low ≤ next) × (next ≤ length text)))
 NameIn text low (name-read.Refused n p) = p ≤ length text

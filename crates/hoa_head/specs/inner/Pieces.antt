@@ -52,6 +52,7 @@ strayNumber piece-is.Text = 40
 strayNumber piece-is.Join = 40
 strayNumber (piece-is.Wrong n) = n
 
+-- `&`
 abbrev pub isJoin : Piece → Bool
 isJoin piece-is.Join = true
 isJoin (piece-is.Item k) = false
@@ -61,6 +62,7 @@ isJoin piece-is.Int = false
 isJoin piece-is.Text = false
 isJoin (piece-is.Wrong n) = false
 
+-- a STRING
 abbrev pub isText : Piece → Bool
 isText piece-is.Text = true
 isText (piece-is.Item k) = false
@@ -70,6 +72,7 @@ isText piece-is.Int = false
 isText piece-is.Join = false
 isText (piece-is.Wrong n) = false
 
+-- a WORD
 abbrev pub isWord : Piece → Bool
 isWord piece-is.Word = true
 isWord (piece-is.Item k) = false
@@ -114,6 +117,7 @@ pub record Spotted (text : List ℕ) (at : ℕ) (r : Spot) : Type 0 where
 
 -- ---- the two tokens in front, by their kinds: the number of the fault, 0 where there is none
 
+-- `HOA:` among the headers
 abbrev pub openingFault : Header → ℕ
 openingFault header-is.Hoa = 0
 openingFault header-is.States = 40
@@ -143,6 +147,7 @@ openingKind kind-is.End = 40
 openingKind kind-is.Finish = 40
 openingKind kind-is.Bad = 40
 
+-- `v1` among the words
 abbrev pub versionFault : Word → ℕ
 versionFault word-is.V1 = 0
 versionFault word-is.True = 41

@@ -1,8 +1,8 @@
 -- Where reading goes on behind a part of the header, or the refusal: what the machine says from there on. Assumes nothing.
 use mathlib.Core.Path.{_≡_}
-use mathlib.Core.Bool.{Bool, true, false, cond, not, _||_}
-use mathlib.Core.List.{List, [], _∷_}
-use Prim.Native.Nat.{ℕ, zero, suc, _≤_}
+use mathlib.Core.Bool.{Bool, false, cond, not, _||_}
+use mathlib.Core.List.{List}
+use Prim.Native.Nat.{ℕ, _≤_}
 use lib.Dec.{eqb, ltb, leb}
 use lib.ListN.{length}
 use Rattle.table.specs.declared.Acceptance.{Acceptance}
@@ -37,6 +37,7 @@ abbrev pub countedEnd : List ℕ → (ℕ → HeadState) → Counted → End Hea
 countedEnd text s (counted.Value v next) = run headStep (tokensAt text next) (s v)
 countedEnd text s (counted.Refused n p) = wrongAt n p
 
+-- all of it in the text, from here on
 abbrev pub CountedIn : List ℕ → ℕ → Counted → Type 0
 CountedIn text low (counted.Value v next) = (low ≤ next) × (next ≤ length text)
 CountedIn text low (counted.Refused n p) = p ≤ length text
@@ -70,10 +71,12 @@ pub record PropsRead (text : List ℕ) (at : ℕ) (r : Counted) : Type 0 where
 
 -- ---- behind a part without a value
 
+-- the byte behind it, or the refusal
 abbrev pub passedEnd : List ℕ → HeadState → Passed → End Head
 passedEnd text s (passed.Behind next) = run headStep (tokensAt text next) s
 passedEnd text s (passed.Refused n p) = wrongAt n p
 
+-- all of it in the text, from here on
 abbrev pub PassedIn : List ℕ → ℕ → Passed → Type 0
 PassedIn text low (passed.Behind next) = (low ≤ next) × (next ≤ length text)
 PassedIn text low (passed.Refused n p) = p ≤ length text
@@ -96,10 +99,12 @@ pub record OpeningRead (text : List ℕ) (r : Passed) : Type 0 where
 
 -- ---- behind a formula
 
+-- the condition and the byte behind the formula, or the refusal
 abbrev pub formedEnd : List ℕ → Head → List ℕ → FormedEnd → End Head
 formedEnd text h needs (formed.Formula c condition next) = run headStep (tokensAt text next) (items (withMarks c condition needs h))
 formedEnd text h needs (formed.Refused n p) = wrongAt n p
 
+-- all of it in the text, from here on
 abbrev pub FormedIn : List ℕ → ℕ → FormedEnd → Type 0
 FormedIn text low (formed.Formula c condition next) = (low ≤ next) × (next ≤ length text)
 FormedIn text low (formed.Refused n p) = p ≤ length text
@@ -117,6 +122,7 @@ turnEnd text h (turn.Go next) = run headStep (tokensAt text next) (items h)
 turnEnd text h (turn.Done next) = doneAt h (tokensAt text next)
 turnEnd text h (turn.Refused n p) = wrongAt n p
 
+-- all of it in the text, from here on
 abbrev pub TurnIn : List ℕ → ℕ → Turn → Type 0
 TurnIn text low (turn.Go next) = (low ≤ next) × (next ≤ length text)
 TurnIn text low (turn.Done next) = next ≤ length text
@@ -137,9 +143,11 @@ withNumbers h states start props marks =
       needs = h .needs;
     }
 
+-- a refusal, with the header so far
 abbrev pub refusedTurn : ℕ → ℕ → Head → HeadTurn
 refusedTurn n p h = record { turn = turn.Refused n p; head = h }
 
+-- behind a part without a value
 abbrev pub passedTurn : Passed → Head → HeadTurn
 passedTurn (passed.Behind next) h = record { turn = turn.Go next; head = h }
 passedTurn (passed.Refused n p) h = refusedTurn n p h
@@ -158,6 +166,7 @@ pub record Opened (text : List ℕ) (p q : ℕ) (h : Head) (k : Header) (r : Hea
   pub says : endBy (onItem h k) p (tokensAt text q) (λ s. run headStep (tokensAt text q) s) ≡ turnEnd text (r .head) (r .turn)
   pub stays : TurnIn text q (r .turn)
 
+-- a refusal of the whole header
 abbrev pub refusedRead : ℕ → ℕ → HeadRead
 refusedRead n p = record { end = head-end.Refused n p; head = blank }
 

@@ -1,5 +1,4 @@
 -- What a token is where an INT or a STRING is wanted. Assumes nothing.
-use Prim.Native.Nat.{ℕ}
 use Rattle.hoa_tokens.specs.declared.Kind.{Kind}
 use Rattle.hoa_tokens.specs.declared.Kind.the-variants as kind-is
 use Rattle.hoa_step.specs.declared.IntKind.{IntKind}

@@ -72,14 +72,13 @@ alike-requires c κs = search needs
 returns : tie.Need-returns Inv-loop μ-loop
 returns c =
     let at-call = c .before in
-    let at-test = at-call .before .before .before .before .before in
-    let at-loop = at-test .before in
+    let at-loop = at-call .before .before .before .before .before .before in
     let at-entry = at-loop .before .before in
     let text = now (at-entry .args .text) in
     let args = at-entry .args in
     let l = at-loop .loop in
     let hit = sym (at-call .alike .ensures) ∙ c .if1 .taken in
-    sym (l .inv .1 ∙ came-hit (part text (args .a) (args .b)) text (now (args .from)) (now (args .to)) (l .i) (at-test .loop-test .taken) hit)
+    sym (l .inv .1 ∙ came-hit (part text (args .a) (args .b)) text (now (args .from)) (now (args .to)) (l .i) (omega arith) hit)
 
 loop-less : tie.Need-loop-less Inv-loop μ-loop
 loop-less c = search needs
@@ -87,14 +86,13 @@ loop-less c = search needs
 loop-again : tie.Need-loop-again Inv-loop μ-loop
 loop-again c =
     let at-call = c .before in
-    let at-test = at-call .before .before .before .before .before in
-    let at-loop = at-test .before in
+    let at-loop = at-call .before .before .before .before .before .before in
     let at-entry = at-loop .before .before in
     let text = now (at-entry .args .text) in
     let args = at-entry .args in
     let l = at-loop .loop in
     let miss = sym (at-call .alike .ensures) ∙ c .if1 .left in
-    (omega arith, l .inv .1 ∙ came-miss (part text (args .a) (args .b)) text (now (args .from)) (now (args .to)) (l .i) (at-test .loop-test .taken) miss)
+    (omega arith, l .inv .1 ∙ came-miss (part text (args .a) (args .b)) text (now (args .from)) (now (args .to)) (l .i) (omega arith) miss)
 
 returns-2 : tie.Need-returns-2 Inv-loop μ-loop
 returns-2 c =
@@ -103,7 +101,7 @@ returns-2 c =
     let text = now (at-entry .args .text) in
     let args = at-entry .args in
     let l = at-loop .loop in
-    sym (l .inv .1 ∙ came-none (part text (args .a) (args .b)) text (now (args .from)) (now (args .to)) (l .i) (c .loop-test .left))
+    sym (l .inv .1 ∙ came-none (part text (args .a) (args .b)) text (now (args .from)) (now (args .to)) (l .i) (omega arith))
 
 pub name-came-spec : {M : Type 1} → statement M
 name-came-spec =

@@ -24,7 +24,7 @@ use Rattle.hoa_head.specs.declared.formed.Formed.{Formed}
 use Rattle.hoa_head.specs.declared.formed.FormedEnd.the-variants as formed
 use Rattle.hoa_head.specs.Head.{mostMarks, withMarks}
 use Rattle.hoa_head.specs.Heading.{items, marksInt, inFormula, headStep, pieceOf, onFormula, onMarks, behindFormula}
-use Rattle.hoa_head.specs.inner.Pieces.{Spotted, unfinishedNumber}
+use Rattle.hoa_head.specs.inner.Pieces.{Spotted, misplacedNumber}
 use Rattle.hoa_head.specs.inner.Turns.{MarksRead}
 use Rattle.hoa_head.proofs.Pieces.{unfinished-is}
 
@@ -58,7 +58,7 @@ behind-standard c h condition needs [] = refl
 behind-standard c h condition needs (p ∷ ps) = refl
 
 behind-short : (c : ℕ) (h : Head) (text : List ℕ) (at : ℕ) (r : Spot) → Spotted text at r
-    → formulaThen c h (formula.overAt short (tokensAt text at)) ≡ wrongAt (unfinishedNumber (r .piece)) (r .first)
+    → formulaThen c h (formula.overAt short (tokensAt text at)) ≡ wrongAt (misplacedNumber 41 (r .piece)) (r .first)
 behind-short c h text at r s = rw (s .is, s .piece, unfinished-is (r .piece))
 
 -- ---- Acceptance:
@@ -101,7 +101,7 @@ module _ (text : List ℕ) (at c p q : ℕ) (n : Next text at p q (int c)) where
     pub formula-stops : (k m : ℕ) → x .found ≡ found-is.Refused k m → r .end ≡ formed.Refused k m → MarksRead text at r
     formula-stops k m e w = record { says = λ h. rw w (found h (found-is.Refused k m) e); stays = rw w (found-in (found-is.Refused k m) e .1) }
 
-    pub formula-short : (k next : ℕ) (spot : Spot) → x .found ≡ found-is.Short next → Spotted text next spot → k ≡ unfinishedNumber (spot .piece)
+    pub formula-short : (k next : ℕ) (spot : Spot) → x .found ≡ found-is.Short next → Spotted text next spot → k ≡ misplacedNumber 41 (spot .piece)
         → r .end ≡ formed.Refused k (spot .first) → MarksRead text at r
     formula-short k next spot e s u w =
         record {

@@ -23,7 +23,7 @@ use Rattle.hoa_head.specs.declared.value.Counted.the-variants as counted
 use Rattle.hoa_head.specs.declared.names.NameRead.the-variants as name-read
 use Rattle.hoa_head.specs.Head.{mostProps}
 use Rattle.hoa_head.specs.Heading.{propsInt, names, headStep, onNames, onProps, nameCame}
-use Rattle.hoa_head.specs.inner.Pieces.{Spotted, isText, unfinishedNumber}
+use Rattle.hoa_head.specs.inner.Pieces.{Spotted, isText, misplacedNumber}
 use Rattle.hoa_head.specs.inner.Turns.{PropsRead}
 use Rattle.hoa_head.specs.inner.Names.{nameList, Spans, OneName, NamesOver, NamesRead}
 use Rattle.hoa_head.proofs.Pieces.{text-piece, unfinished-is, name-not}
@@ -88,7 +88,7 @@ came-miss bs text from to i l e = came-step bs text from to i l ∙ rw e
 -- ---- one more name
 
 module _ (text from to : List ℕ) (at count : ℕ) (r : Spot) (s : Spotted text at r) where
-  pub one-stops : (k : ℕ) → isText (r .piece) ≡ false → k ≡ unfinishedNumber (r .piece) → at ≤ length text
+  pub one-stops : (k : ℕ) → isText (r .piece) ≡ false → k ≡ misplacedNumber 41 (r .piece) → at ≤ length text
       → OneName text from to at count (name-read.Refused k (r .first))
   unfolding headStep
   one-stops k e u l =

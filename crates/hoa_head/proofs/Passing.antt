@@ -16,7 +16,7 @@ use Rattle.hoa_head.specs.declared.Head.{Head}
 use Rattle.hoa_head.specs.declared.token.Spot.{Spot}
 use Rattle.hoa_head.specs.declared.hint.Passed.the-variants as passed
 use Rattle.hoa_head.specs.Heading.{HeadState, items, hints, accName, toolText, toolMore, nameText, headStep}
-use Rattle.hoa_head.specs.inner.Pieces.{Spotted, isHint, isWord, isText, strayNumber}
+use Rattle.hoa_head.specs.inner.Pieces.{Spotted, isHint, isWord, isText, misplacedNumber}
 use Rattle.hoa_head.specs.inner.Turns.{Passes, HintsPassed}
 use Rattle.hoa_head.proofs.Pieces.{hint-known, word-known, text-piece, hint-is, hint-not, word-is, word-not, tool-is, tool-not}
 
@@ -72,7 +72,7 @@ module _ (text : List ℕ) (at : ℕ) (r : Spot) (s : Spotted text at r) where
         stays = (omega (arith, n .behind-at, n .takes, p .behind-at), p .within);
       }
 
-  pub acc-stops : (k : ℕ) → isWord (r .piece) ≡ false → k ≡ strayNumber (r .piece) → at ≤ length text → Passes text at accName items (passed.Refused k (r .first))
+  pub acc-stops : (k : ℕ) → isWord (r .piece) ≡ false → k ≡ misplacedNumber 40 (r .piece) → at ≤ length text → Passes text at accName items (passed.Refused k (r .first))
   unfolding headStep
   acc-stops k e q l =
       record {

@@ -10,7 +10,7 @@ use Rattle.hoa_head.specs.declared.Piece.{Piece}
 use Rattle.hoa_head.specs.declared.Piece.the-variants as piece-is
 use Rattle.hoa_head.specs.Heading.{items, hints, pieceOf, onPiece, onStartMore, onToolMore, onHints, onAccName, onNames, behindNames}
 use Rattle.hoa_head.specs.Heading.{unfinished}
-use Rattle.hoa_head.specs.inner.Pieces.{unfinishedNumber, strayNumber, isJoin, isText, isWord, isHint, known}
+use Rattle.hoa_head.specs.inner.Pieces.{misplacedNumber, isJoin, isText, isWord, isHint, known}
 
 -- ---- what belongs is admitted
 
@@ -121,7 +121,7 @@ word-is h piece-is.Text e = cc
 word-is h piece-is.Join e = cc
 word-is h (piece-is.Wrong n) e = cc
 
-pub word-not : (h : Head) (p : Piece) → isWord p ≡ false → onAccName h p ≡ wrong (strayNumber p)
+pub word-not : (h : Head) (p : Piece) → isWord p ≡ false → onAccName h p ≡ wrong (misplacedNumber 40 p)
 word-not h piece-is.Word e = cc
 word-not h (piece-is.Item k) e = refl
 word-not h piece-is.Body e = refl
@@ -132,7 +132,7 @@ word-not h (piece-is.Wrong n) e = refl
 
 -- ---- behind names or a formula that are too few
 
-pub unfinished-is : (p : Piece) → unfinished p ≡ wrong (unfinishedNumber p)
+pub unfinished-is : (p : Piece) → unfinished p ≡ wrong (misplacedNumber 41 p)
 unfinished-is piece-is.Word = refl
 unfinished-is (piece-is.Item k) = refl
 unfinished-is piece-is.Body = refl

@@ -1,6 +1,6 @@
 // The INT of Acceptance: and its formula. Relies on `token`, and on the crates `hoa_step` and `hoa_formula`.
 use crate::token::look;
-use crate::token::unfinished;
+use crate::token::misplaced;
 use hoa_formula::FormulaFound;
 use hoa_formula::read_formula;
 use hoa_step::IntRead;
@@ -65,7 +65,7 @@ pub(crate) fn read_marks(text: &[u8], at: usize) -> Formed
                 FormulaFound::Short { next } => {
                     let spot = look(text, next);
                     let piece = spot.piece;
-                    formed_refused(unfinished(piece), spot.first)
+                    formed_refused(misplaced(piece, 41), spot.first)
                 }
                 FormulaFound::Standard { condition, next } => Formed {
                     end: FormedEnd::Formula {

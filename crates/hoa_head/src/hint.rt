@@ -3,7 +3,7 @@ use crate::token::is_hint;
 use crate::token::is_text;
 use crate::token::is_word;
 use crate::token::look;
-use crate::token::stray;
+use crate::token::misplaced;
 use hoa_step::TextRead;
 use hoa_step::read_text;
 ghost use mathlib.Core.Path.{_≡_};
@@ -46,7 +46,7 @@ pub(crate) fn read_acc_name(text: &[u8], at: usize) -> Passed
         return Passed::Behind { next };
     }
     Passed::Refused {
-        number: stray(piece),
+        number: misplaced(piece, 40),
         place: spot.first,
     }
 }

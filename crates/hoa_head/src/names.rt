@@ -2,7 +2,7 @@
 use crate::hint::Passed;
 use crate::token::is_text;
 use crate::token::look;
-use crate::token::unfinished;
+use crate::token::misplaced;
 use crate::value::Counted;
 use hoa_step::IntRead;
 use hoa_step::read_int;
@@ -56,7 +56,7 @@ fn read_one(text: &[u8], at: usize, from: &[usize; 6], to: &[usize; 6], count: u
     let piece = spot.piece;
     if !is_text(piece) {
         return NameRead::Refused {
-            number: unfinished(piece),
+            number: misplaced(piece, 41),
             place: spot.first,
         };
     }

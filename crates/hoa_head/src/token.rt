@@ -6,7 +6,7 @@ use hoa_tokens::Sign;
 use hoa_tokens::token_at;
 ghost use mathlib.Core.Path.{_≡_};
 ghost use Rattle.hoa_head.specs.Heading.{pieceHeader, pieceSign};
-ghost use Rattle.hoa_head.specs.inner.Pieces.{pieceKind, unfinishedNumber, strayNumber, isJoin, isText, isWord, isHint, Spotted};
+ghost use Rattle.hoa_head.specs.inner.Pieces.{pieceKind, misplacedNumber, isJoin, isText, isWord, isHint, Spotted};
 
 // The first token from a place on: what it is, its first byte and the byte behind it.
 pub(crate) struct Spot {
@@ -85,28 +85,13 @@ pub(crate) fn look(text: &[u8], at: usize) -> Spot
     }
 }
 
-// The fault of a token behind names or a formula that are too few: 41 where an item or `--BODY--` may stand.
-pub(crate) fn unfinished(piece: Piece) -> u32
-    ensures { λ r. ⌜ r ≡ unfinishedNumber piece ⌝ }
+// The number of a token that may not stand here: this one for an item and `--BODY--`, which may stand behind what came before.
+pub(crate) fn misplaced(piece: Piece, item: u32) -> u32
+    ensures { λ r. ⌜ r ≡ misplacedNumber item piece ⌝ }
 {
     match piece {
-        Piece::Item(_) => 41,
-        Piece::Body => 41,
-        Piece::Word => 40,
-        Piece::Int => 40,
-        Piece::Text => 40,
-        Piece::Join => 40,
-        Piece::Wrong(number) => number,
-    }
-}
-
-// The fault of a token where a WORD is wanted.
-pub(crate) fn stray(piece: Piece) -> u32
-    ensures { λ r. ⌜ r ≡ strayNumber piece ⌝ }
-{
-    match piece {
-        Piece::Item(_) => 40,
-        Piece::Body => 40,
+        Piece::Item(_) => item,
+        Piece::Body => item,
         Piece::Word => 40,
         Piece::Int => 40,
         Piece::Text => 40,

@@ -32,25 +32,15 @@ pieceKind kind-is.End = piece-is.Wrong 40
 pieceKind kind-is.Finish = piece-is.Wrong 40
 pieceKind kind-is.Bad = piece-is.Wrong 40
 
--- the number that `unfinished` gives
-abbrev pub unfinishedNumber : Piece → ℕ
-unfinishedNumber (piece-is.Item k) = 41
-unfinishedNumber piece-is.Body = 41
-unfinishedNumber piece-is.Word = 40
-unfinishedNumber piece-is.Int = 40
-unfinishedNumber piece-is.Text = 40
-unfinishedNumber piece-is.Join = 40
-unfinishedNumber (piece-is.Wrong n) = n
-
--- the number of a token where a WORD is wanted
-abbrev pub strayNumber : Piece → ℕ
-strayNumber (piece-is.Item k) = 40
-strayNumber piece-is.Body = 40
-strayNumber piece-is.Word = 40
-strayNumber piece-is.Int = 40
-strayNumber piece-is.Text = 40
-strayNumber piece-is.Join = 40
-strayNumber (piece-is.Wrong n) = n
+-- the number of a token that may not stand here: this one for an item and `--BODY--`
+abbrev pub misplacedNumber : ℕ → Piece → ℕ
+misplacedNumber item (piece-is.Item k) = item
+misplacedNumber item piece-is.Body = item
+misplacedNumber item piece-is.Word = 40
+misplacedNumber item piece-is.Int = 40
+misplacedNumber item piece-is.Text = 40
+misplacedNumber item piece-is.Join = 40
+misplacedNumber item (piece-is.Wrong n) = n
 
 -- `&`
 abbrev pub isJoin : Piece → Bool

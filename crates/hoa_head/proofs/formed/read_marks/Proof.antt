@@ -49,8 +49,8 @@ enum-known-found-2 c = search needs
 look-requires : tie.Need-look-requires
 look-requires c κs = search needs
 
-unfinished-requires : tie.Need-unfinished-requires
-unfinished-requires c κs = search needs
+misplaced-requires : tie.Need-misplaced-requires
+misplaced-requires c κs = search needs
 
 formed-refused-requires-4 : tie.Need-formed-refused-requires-4
 formed-refused-requires-4 c κs = search needs
@@ -96,7 +96,7 @@ returns-4 c =
     let spot = at-look .look in
     let formula = at-formula .read-formula in
     formula-short text (args .at) _ _ _ (int-there text (args .at) _ (at-arm .marks .given .1) (at-read .read-int .ensures)) _ (formula .result) (formula .ensures)
-    (at-test .if1 .left) _ _ (spot .result) (at-found .found2 .given .1) (spot .ensures) (at-number .unfinished .ensures) (c .formed-refused4 .ensures)
+    (at-test .if1 .left) _ _ (spot .result) (at-found .found2 .given .1) (spot .ensures) (at-number .misplaced .ensures) (c .formed-refused4 .ensures)
 
 returns-5 : tie.Need-returns-5
 returns-5 c =
@@ -127,7 +127,7 @@ read-marks-spec =
     formed-refused-requires-3
     enum-known-found-2
     look-requires
-    unfinished-requires
+    misplaced-requires
     formed-refused-requires-4
     enum-known-found-3
     returns-2

@@ -31,8 +31,8 @@ returns c =
     let spot = at-look .look in
     acc-goes text (at-entry .args .at) (spot .result) (spot .ensures) _ (sym (at-test .is-word .ensures) ∙ at-taken .if1 .taken) (c .pass-hints .ensures)
 
-stray-requires : tie.Need-stray-requires
-stray-requires c κs = search needs
+misplaced-requires : tie.Need-misplaced-requires
+misplaced-requires c κs = search needs
 
 returns-2 : tie.Need-returns-2
 returns-2 c =
@@ -42,7 +42,7 @@ returns-2 c =
     let at-entry = at-look .before .before in
     let text = now (at-entry .args .text) in
     let spot = at-look .look in
-    acc-stops text (at-entry .args .at) (spot .result) (spot .ensures) _ (sym (at-test .is-word .ensures) ∙ at-left .if1 .left) (c .stray .ensures) (at-entry .pre)
+    acc-stops text (at-entry .args .at) (spot .result) (spot .ensures) _ (sym (at-test .is-word .ensures) ∙ at-left .if1 .left) (c .misplaced .ensures) (at-entry .pre)
 
 pub read-acc-name-spec : {M : Type 1} → statement M
 read-acc-name-spec =
@@ -52,5 +52,5 @@ read-acc-name-spec =
     is-word-requires
     pass-hints-requires
     returns
-    stray-requires
+    misplaced-requires
     returns-2)

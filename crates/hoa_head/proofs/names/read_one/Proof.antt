@@ -15,8 +15,8 @@ look-requires c κs = search needs
 is-text-requires : tie.Need-is-text-requires
 is-text-requires c κs = search needs
 
-unfinished-requires : tie.Need-unfinished-requires
-unfinished-requires c κs = search needs
+misplaced-requires : tie.Need-misplaced-requires
+misplaced-requires c κs = search needs
 
 returns : tie.Need-returns
 returns c =
@@ -28,7 +28,7 @@ returns c =
     let args = at-entry .args in
     let spot = at-look .look in
     one-stops text (now (args .from)) (now (args .to)) (args .at) (args .count) (spot .result) (spot .ensures) _
-    (sym (at-test .is-text .ensures) ∙ not-true _ (at-taken .if1 .taken)) (c .unfinished .ensures) (at-entry .pre .1)
+    (sym (at-test .is-text .ensures) ∙ not-true _ (at-taken .if1 .taken)) (c .misplaced .ensures) (at-entry .pre .1)
 
 add-a : tie.Need-add-a
 add-a c =
@@ -100,7 +100,7 @@ read-one-spec =
     (tie.spec
     look-requires
     is-text-requires
-    unfinished-requires
+    misplaced-requires
     returns
     add-a
     sub-b

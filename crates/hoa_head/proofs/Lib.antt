@@ -16,3 +16,5 @@ pub mod Items
 pub mod Openings
 -- Promises: two results that are allowed say the same; the header of a text always ends
 pub mod Promises
+-- Examples: the rules' own examples of headers
+pub mod Examples

@@ -112,7 +112,6 @@ others-inf n (ahead-is.RabinFin m b) h = refl
 others-inf n (ahead-is.RabinInf m b x) h = absurd (miss (0 ∷ 1 ∷ 2 ∷ 3 ∷ 4 ∷ 6 ∷ 7 ∷ []) 5 tt h)
 others-inf n (ahead-is.StreettFin m u) h = refl
 others-inf n (ahead-is.StreettInf m v) h = refl
-
 -- ---- tests
 
 pub none-open : (d : ℕ) (k : Complete) → (d ≡ 0 → ⊥) → complete-is.None ≡ ifNone d k

@@ -34,6 +34,7 @@ use Rattle.hoa_formula.proofs.Steps.{needsPast, needsNext}
 
 -- ---- counts of brackets
 
+
 open-within : (k : ℕ) (a : Ahead) → aheadWithin k a → aheadWithin (suc k) (openedTo a)
 open-within k ahead-is.Lost h = tt
 open-within k (ahead-is.Start d) h = omega arith
@@ -183,10 +184,10 @@ counts-needed : (ns : List ℕ) (n : Needs) (m b d : ℕ) → Counts ns n → Co
 counts-needed [] n m b d h = rw (h .pairs) (record { pairs = refl; needs = h .needs; few = h .few })
 counts-needed (x ∷ ns) n m b d h =
     rw (ne-eqb (n .pairs) 0 (λ (e : n .pairs ≡ 0). omega (arith, h .pairs)))
-    (record {
-      pairs = h .pairs;
-      needs = rw (h .needs, last) (eight-needed x ns);
-      few = h .few;
+    (record
+    { pairs = h .pairs
+    ; needs = rw (h .needs, last) (eight-needed x ns)
+    ; few = h .few
     })
   where
     last : n .pairs - 1 ≡ length ns
@@ -206,7 +207,6 @@ needed-each n k h i = by (eqb (n .pairs) 0)
     one (x ∷ xs) zero (suc i) v l g = omega (arith, g (suc i))
     one (x ∷ xs) (suc j) zero v l g = omega (arith, g 0)
     one (x ∷ xs) (suc j) (suc i) v l g = one xs j i v l (λ i. g (suc i))
-
     by : (t : Bool) → getD (cond t n (tally (n .pairs) (set (n .needs) (n .pairs - 1) (getD (n .needs) (n .pairs - 1) 0 + 1))) .needs) i 0 ≤ suc k
     by true = omega (arith, h i)
     by false = one (n .needs) (n .pairs - 1) i (getD (n .needs) (n .pairs - 1) 0 + 1) (omega (arith, h (n .pairs - 1))) h
@@ -271,21 +271,22 @@ module _ (c : ℕ) (ns : List ℕ) (n : Needs) where
       → ((k : ℕ) → Within k f → Within (suc k) f')
       → Keeps c ns n f p f'
   still f p f' e s l ninth w =
-      record {
-        within = w;
-        counts = λ h b. rw (e, s, cond-same (ltb (f .atoms) c) n) h;
-        bounded = λ b. rw (s, cond-same (ltb (f .atoms) c) n) (record { pairs = b .pairs; each = λ i. omega (arith, b .each i); ninth = ninth });
+      record
+      { within = w
+      ; counts = λ h b. rw (e, s, cond-same (ltb (f .atoms) c) n) h
+      ; bounded = λ b. rw (s, cond-same (ltb (f .atoms) c) n) (record { pairs = b .pairs; each = λ i. omega (arith, b .each i); ninth = ninth })
       }
 
   -- Inf
   inf-keeps : (d k : ℕ) (a : Ahead) → ltb k c ≡ true → Keeps c ns n (formula d k (stage-is.Operand a)) piece-is.Inf (formula d (suc k) (stage-is.Named (infTo c a)))
   inf-keeps d k a l =
-      record {
-        within = λ j w. record { depth = omega (arith, w .depth); stage = inf-within j c a (w .stage) };
-        counts = λ h b. rw l (counted a h);
-        bounded = λ b. rw l (kept a b);
+      record
+      { within = λ j w. record { depth = omega (arith, w .depth); stage = inf-within j c a (w .stage) }
+      ; counts = λ h b. rw l (counted a h)
+      ; bounded = λ b. rw l (kept a b)
       }
     where
+
       counted : (x : Ahead) → Counts ns n → Counts (needsInf (aheadIs c x .rabin) ns) (infNeeds n x)
       counted ahead-is.Lost h = h
       counted (ahead-is.Start d) h = h
@@ -295,7 +296,6 @@ module _ (c : ℕ) (ns : List ℕ) (n : Needs) where
       counted (ahead-is.RabinInf m b d) h = counts-needed ns n m b d h
       counted (ahead-is.StreettFin m u) h = h
       counted (ahead-is.StreettInf m v) h = h
-
       kept : (x : Ahead) → Bounded n k (stage-is.Operand a) → Bounded (infNeeds n x) (suc k) (stage-is.Named (infTo c a))
       kept ahead-is.Lost b = record { pairs = b .pairs; each = λ i. omega (arith, b .each i); ninth = refl }
       kept (ahead-is.Start d) b = record { pairs = b .pairs; each = λ i. omega (arith, b .each i); ninth = refl }
@@ -309,10 +309,10 @@ module _ (c : ℕ) (ns : List ℕ) (n : Needs) where
   -- Fin
   fin-keeps : (d k : ℕ) (a : Ahead) → ltb k c ≡ true → Keeps c ns n (formula d k (stage-is.Operand a)) piece-is.Fin (formula d (suc k) (stage-is.Named (finTo a)))
   fin-keeps d k a l =
-      record {
-        within = λ j w. record { depth = omega (arith, w .depth); stage = fin-within j a (w .stage) };
-        counts = λ h b. rw l (counted a h (b .ninth));
-        bounded = λ b. rw l (kept a b);
+      record
+      { within = λ j w. record { depth = omega (arith, w .depth); stage = fin-within j a (w .stage) }
+      ; counts = λ h b. rw l (counted a h (b .ninth))
+      ; bounded = λ b. rw l (kept a b)
       }
     where
       room : leb mostPairs (n .pairs) && true ≡ false → n .pairs < 8
@@ -321,7 +321,6 @@ module _ (c : ℕ) (ns : List ℕ) (n : Needs) where
           by : (t : Bool) → leb mostPairs (n .pairs) ≡ t → t && true ≡ false → n .pairs < 8
           by true x y = absurd (let z : _≡_ {A = ℕ} 0 1 = cc in omega arith)
           by false x y = leb-false 8 (n .pairs) x
-
       counted : (x : Ahead) → Counts ns n → leb mostPairs (n .pairs) && opensPairAhead x ≡ false
           → Counts (needsFin (aheadIs c x .rabin) ns) (cond (opensPairAhead x) (begunTo n) n)
       counted ahead-is.Lost h e = h
@@ -332,7 +331,6 @@ module _ (c : ℕ) (ns : List ℕ) (n : Needs) where
       counted (ahead-is.RabinInf m b d) h e = h
       counted (ahead-is.StreettFin m u) h e = h
       counted (ahead-is.StreettInf m v) h e = h
-
       kept : (x : Ahead) → Bounded n k (stage-is.Operand x) → Bounded (cond (opensPairAhead x) (begunTo n) n) (suc k) (stage-is.Named (finTo a))
       kept ahead-is.Lost b = record { pairs = b .pairs; each = λ i. omega (arith, b .each i); ninth = refl }
       kept (ahead-is.Start d) b = record { pairs = omega (arith, room (b .ninth)); each = λ i. omega (arith, b .each i); ninth = refl }

@@ -178,10 +178,10 @@ past-says text c k ns n at p h = by (ltb k c)
     by : (t : Bool) → Says text at (cond t short (byDone c ns (pastIs c p))) (cond t (found (found-is.Short at) noNeeds) (completeRead c n at (completeTo p)))
     by true = record { is = refl; place = refl; needs = refl }
     by false =
-        record {
-          is = ap (λ (m : FormulaMeaning). overAt m (tokensAt text at)) (done-is c ns p) ∙ read-says text c ns n at (completeTo p) h;
-          place = read-place c n at (completeTo p);
-          needs = read-needs c ns n at (completeTo p) h;
+        record
+        { is = ap (λ (m : FormulaMeaning). overAt m (tokensAt text at)) (done-is c ns p) ∙ read-says text c ns n at (completeTo p) h
+        ; place = read-place c n at (completeTo p)
+        ; needs = read-needs c ns n at (completeTo p) h
         }
 
 -- ---- the loop
@@ -204,14 +204,14 @@ zeros (suc k) (suc i) = zeros k i
 pub reading-begins : (text : List ℕ) (at c : ℕ) → Reading text at c (formula 0 0 (stage-is.Operand (ahead-is.Start 0))) (tally 0 noNeeds) at
 unfolding formulaBegin eightNeeds
 reading-begins text at c =
-    record {
-      needs = [];
-      run = refl;
-      counts = record { pairs = refl; needs = refl; few = omega arith };
-      bounded = record { pairs = omega arith; each = zeros 8; ninth = refl };
-      within = record { depth = omega arith; stage = omega arith };
-      behind = omega arith;
-      inside = λ l. l;
+    record
+    { needs = []
+    ; run = refl
+    ; counts = record { pairs = refl; needs = refl; few = omega arith }
+    ; bounded = record { pairs = omega arith; each = zeros 8; ninth = refl }
+    ; within = record { depth = omega arith; stage = omega arith }
+    ; behind = omega arith
+    ; inside = λ l. l
     }
 
 module _ (text : List ℕ) (at c : ℕ) (f : Formula) (n : Needs) (here : ℕ) (r : Reading text at c f n here) (token : Found) (t : TokenAt text here token) where
@@ -261,14 +261,14 @@ module _ (text : List ℕ) (at c : ℕ) (f : Formula) (n : Needs) (here : ℕ) (
   reading-goes f' e =
       let m = goes-moves f' e in
       let k = keeps c (r .needs) n f p f' e in
-      record {
-        needs = needsNext c (f .stage) p (r .needs);
-        run = run-says (turn-is.Go f') e ∙ ap (formulaRun c (stateOf c f' (needsNext c (f .stage) p (r .needs)))) (unless text (token .first) (token .next) (token .kind) _ (not-finish f' e));
-        counts = k .counts (r .counts) (r .bounded);
-        bounded = k .bounded (r .bounded);
-        within = within-up (suc here) (token .next) f' (omega (arith, m .behind-at, m .takes)) (k .within here (r .within));
-        behind = omega (arith, m .behind-at, m .takes, r .behind);
-        inside = λ l. m .within;
+      record
+      { needs = needsNext c (f .stage) p (r .needs)
+      ; run = run-says (turn-is.Go f') e ∙ ap (formulaRun c (stateOf c f' (needsNext c (f .stage) p (r .needs)))) (unless text (token .first) (token .next) (token .kind) _ (not-finish f' e))
+      ; counts = k .counts (r .counts) (r .bounded)
+      ; bounded = k .bounded (r .bounded)
+      ; within = within-up (suc here) (token .next) f' (omega (arith, m .behind-at, m .takes)) (k .within here (r .within))
+      ; behind = omega (arith, m .behind-at, m .takes, r .behind)
+      ; inside = λ l. m .within
       }
 
   -- `(` takes a byte, so there is room for one bracket more
@@ -283,11 +283,11 @@ module _ (text : List ℕ) (at c : ℕ) (f : Formula) (n : Needs) (here : ℕ) (
   pub reading-wrong : (k : ℕ) → turnAt c f p (n .pairs) ≡ turn-is.Wrong k → FormulaAt text at c (found (found-is.Refused k (token .first)) noNeeds)
   unfolding tok
   reading-wrong k e =
-      record {
-        is = run-says (turn-is.Wrong k) e;
-        behind-at = omega (arith, t .behind-at, r .behind);
-        within = λ l. omega (arith, t .within (r .inside l), t .behind-first);
-        needs = refl;
+      record
+      { is = run-says (turn-is.Wrong k) e
+      ; behind-at = omega (arith, t .behind-at, r .behind)
+      ; within = λ l. omega (arith, t .within (r .inside l), t .behind-first)
+      ; needs = refl
       }
 
   -- only behind an operand is the formula over
@@ -303,11 +303,11 @@ module _ (text : List ℕ) (at c : ℕ) (f : Formula) (n : Needs) (here : ℕ) (
   unfolding tok
   reading-over e =
       let s = stage-says (f .stage) (f .depth) e in
-      record {
-        is = run-says turn-is.Over e ∙ ap (overAt (meaningAt c (f .atoms) (r .needs) (f .stage))) (sym (tokens-next text here token t)) ∙ s .is;
-        behind-at = rw (s .place) (r .behind);
-        within = λ l. rw (s .place) (r .inside l);
-        needs = s .needs;
+      record
+      { is = run-says turn-is.Over e ∙ ap (overAt (meaningAt c (f .atoms) (r .needs) (f .stage))) (sym (tokens-next text here token t)) ∙ s .is
+      ; behind-at = rw (s .place) (r .behind)
+      ; within = λ l. rw (s .place) (r .inside l)
+      ; needs = s .needs
       }
 
 -- the reader's turn, by what its functions promise

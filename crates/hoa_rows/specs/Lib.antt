@@ -6,3 +6,5 @@ pub mod Rows
 pub mod Sorted
 -- Lent: what comes back, and what the lent tables hold
 pub mod Lent
+-- inner: what private functions ask and promise
+pub mod inner

@@ -36,6 +36,8 @@ pub record Holds (b : Rows) (s : RowsSoFar) (tos sets firsts ends : List ℕ) : 
   pub parts : (q : ℕ) → leaving q (b .edges) ≡ take (endOf ends q - firstOf firsts q) (drop (firstOf firsts q) (b .edges))
   pub ordered : (q : ℕ) → firstOf firsts q ≤ endOf ends q
   pub within : (q : ℕ) → endOf ends q ≤ length (b .edges)
+  -- a state without a row has none
+  pub empty : (q : ℕ) → getD firsts q 0 ≡ 0 → endOf ends q ≡ 0
   -- those of the last row stand last
   pub last : (q : ℕ) (qs : List ℕ) → b .seen ≡ q ∷ qs → endOf ends q ≡ length (b .edges)
 

@@ -1,0 +1,117 @@
+-- The kept edges by states: what the tables hold is what `sorted` says. Assumes nothing.
+use mathlib.Core.Path.{_≡_, refl, sym, ap, _∙_}
+use mathlib.Core.Bool.{Bool, true, false, cond}
+use mathlib.Core.List.{List, [], _∷_, _++_, map, append-assoc, append-nil, map-append}
+use Prim.Native.Nat.{ℕ, zero, suc, _+_, _-_, _≤_, _<_}
+use native.Mathlib.Omega.{arith}
+use native.Mathlib.Numerals.{add-one}
+use borrow.Author.Tests.{eqb-true}
+use lib.Dec.{eqb}
+use lib.ListN.{length, getD, set, take, drop, replicate, length-append, length-take, length-drop, length-map, length-replicate, length-set}
+use lib.Seq.{take-suc, take-suc-set, take-append-le, drop-append-le, getD-drop, take-add, take-length, take-set-le}
+use Rattle.hoa_tokens.proofs.Sizes.{byTest}
+use Rattle.job_text.specs.Value.{Edge, padTo}
+use Rattle.job_text.specs.Job.{mostJobEdges}
+use Rattle.hoa_rows.specs.Sorted.{leaving, sorted}
+use Rattle.hoa_rows.specs.inner.Copied.{Filled, between, Copied, firstOf, endOf, total, statesOf, partsOf}
+
+-- ---- one cell more
+
+pub replicate-more : (n v : ℕ) → replicate (suc n) v ≡ replicate n v ++ (v ∷ [])
+replicate-more zero v = refl
+replicate-more (suc n) v = ap (λ (xs : List ℕ). v ∷ xs) (replicate-more n v)
+
+-- what is filled so far: i cells
+abbrev pub FillAt : ℕ → ℕ → List ℕ → List ℕ → ℕ → Type 0
+FillAt first value cells₀ cells i = take i cells ≡ take first cells₀ ++ replicate (i - first) value
+
+pub fill-none : (first value : ℕ) (cells : List ℕ) → FillAt first value cells cells first
+fill-none first value cells =
+    let z : first - first ≡ 0 = omega arith in
+    rw (z, append-nil)
+
+pub fill-more : (first value : ℕ) (cells₀ cells : List ℕ) (i : ℕ) → first ≤ i → i < length cells → FillAt first value cells₀ cells i
+    → FillAt first value cells₀ (set cells i value) (i + 1)
+fill-more first value cells₀ cells i f l h =
+    let z : i + 1 - first ≡ suc (i - first) = omega arith in
+    rw (z, add-one, take-suc-set cells i value l, h, replicate-more (i - first) value, append-assoc)
+
+-- what is copied so far: up to index i of the source, into the cells up to k
+abbrev pub CopyAt : ℕ → ℕ → List ℕ → List ℕ → List ℕ → ℕ → ℕ → Type 0
+CopyAt at first source cells₀ cells i k = take k cells ≡ take at cells₀ ++ between first i source
+
+pub copy-none : (at first : ℕ) (source cells : List ℕ) → CopyAt at first source cells cells first at
+copy-none at first source cells =
+    let z : first - first ≡ 0 = omega arith in
+    rw (z, append-nil)
+
+between-more : (first i : ℕ) (xs : List ℕ) → first ≤ i → i < length xs → between first (i + 1) xs ≡ between first i xs ++ (getD xs i 0 ∷ [])
+between-more first i xs f l =
+    let z : i + 1 - first ≡ suc (i - first) = omega arith in
+    let y : first + (i - first) ≡ i = omega arith in
+    rw (z, take-suc (drop first xs) (i - first) 0 (omega (arith, length-drop first xs)), getD-drop, y)
+
+pub copy-more : (at first : ℕ) (source cells₀ cells : List ℕ) (i k : ℕ) → first ≤ i → i < length source → k < length cells
+    → CopyAt at first source cells₀ cells i k → CopyAt at first source cells₀ (set cells k (getD source i 0)) (i + 1) (k + 1)
+copy-more at first source cells₀ cells i k f l m h =
+    rw (between-more first i source f l, add-one, take-suc-set cells k (getD source i 0) m, h, append-assoc)
+
+-- ---- edges by states
+
+-- the edges of a state all leave it
+pub leaving-from : (q : ℕ) (es : List Edge) → map (λ (e : Edge). e .from) (leaving q es) ≡ replicate (length (leaving q es)) q
+leaving-from q [] = refl
+leaving-from q (e ∷ es) =
+    byTest (eqb (e .from) q)
+    (λ t. rw (t, eqb-true (e .from) q t) (ap (λ (xs : List ℕ). q ∷ xs) (leaving-from q es)))
+    (λ t. rw t (leaving-from q es))
+
+-- edges that stand together are numbers that stand together
+pub map-take : (part : Edge → ℕ) (n : ℕ) (es : List Edge) → map part (take n es) ≡ take n (map part es)
+map-take part zero es = refl
+map-take part (suc n) [] = refl
+map-take part (suc n) (e ∷ es) = ap (λ (xs : List ℕ). part e ∷ xs) (map-take part n es)
+
+pub map-drop : (part : Edge → ℕ) (n : ℕ) (es : List Edge) → map part (drop n es) ≡ drop n (map part es)
+map-drop part zero es = refl
+map-drop part (suc n) [] = refl
+map-drop part (suc n) (e ∷ es) = map-drop part n es
+
+-- the zeros behind the edges do not matter
+pub between-padded : (n first end : ℕ) (xs : List ℕ) → first ≤ end → end ≤ length xs → between first end (padTo n xs) ≡ between first end xs
+between-padded n first end xs f l =
+    rw (drop-append-le first xs (replicate (n - length xs) 0) (omega arith), take-append-le (end - first) (drop first xs) (replicate (n - length xs) 0) (omega (arith, length-drop first xs)))
+
+-- ---- the tables
+
+-- where the edges of each state stand
+pub record Parted (es : List Edge) (firsts ends : List ℕ) : Type 0 where
+  pub parts : (q : ℕ) → leaving q es ≡ take (endOf ends q - firstOf firsts q) (drop (firstOf firsts q) es)
+  pub ordered : (q : ℕ) → firstOf firsts q ≤ endOf ends q
+  pub within : (q : ℕ) → endOf ends q ≤ length es
+
+module _ (es : List Edge) (firsts ends : List ℕ) (d : Parted es firsts ends) where
+  pub leaving-length : (q : ℕ) → length (leaving q es) ≡ endOf ends q - firstOf firsts q
+  leaving-length q =
+      rw (d .parts q)
+      (omega (arith, length-take (endOf ends q - firstOf firsts q) (drop (firstOf firsts q) es), length-drop (firstOf firsts q) es, d .ordered q, d .within q))
+
+  pub total-sorted : (n : ℕ) → total firsts ends n ≡ length (sorted n es)
+  total-sorted zero = refl
+  total-sorted (suc n) = omega (arith, total-sorted n, leaving-length n, length-append (sorted n es) (leaving n es))
+
+  pub states-sorted : (n : ℕ) → statesOf firsts ends n ≡ map (λ (e : Edge). e .from) (sorted n es)
+  states-sorted zero = refl
+  states-sorted (suc n) =
+      rw (map-append (λ (e : Edge). e .from) (sorted n es) (leaving n es), leaving-from n es, states-sorted n, leaving-length n)
+
+  pub parts-sorted : (part : Edge → ℕ) (source : List ℕ) → source ≡ padTo mostJobEdges (map part es) → (n : ℕ)
+      → partsOf firsts ends source n ≡ map part (sorted n es)
+  parts-sorted part source e zero = refl
+  parts-sorted part source e (suc n) =
+      let f = firstOf firsts n in
+      let g = endOf ends n in
+      let h : between f g source ≡ map part (leaving n es) =
+          rw (e, between-padded mostJobEdges f g (map part es) (d .ordered n) (omega (arith, d .within n, length-map es part)), ← map-drop part f es, ← map-take part (g - f) (drop f es), d .parts n)
+      in
+      rw (map-append part (sorted n es) (leaving n es), parts-sorted part source e n, h)

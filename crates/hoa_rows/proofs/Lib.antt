@@ -1,0 +1,10 @@
+-- Told: what a token is by its kind
+pub mod Told
+-- Steps: the machine's steps at the token that is found, sigs and labels inside the rows
+pub mod Steps
+-- Holding: what a row and an edge change keeps the rows held
+pub mod Holding
+-- Copying: the kept edges by states
+pub mod Copying
+-- Reading: what the functions that read a sig, a row and an edge find makes a stretch of the machine
+pub mod Reading

@@ -1,11 +1,14 @@
 -- Labels as a grammar, apart from any reader (docs/RULES.md, "The Hanoi format", labels). Assumes nothing.
 use mathlib.Core.Bool.{Bool, true, false, not, _&&_, _||_}
-use mathlib.Core.List.{List, [], _∷_}
+use mathlib.Core.List.{List, [], _∷_, _++_}
+use mathlib.Core.Logic.{_⊎_, _↔_}
 use mathlib.Core.Path.{_≡_}
-use Prim.Native.Nat.{ℕ, suc, _<_, _≤_, max}
+use Prim.Native.Nat.{ℕ, suc, _/_, _%_, _^_, _<_, _≤_, max}
+use lib.Dec.{eqb}
+use Rattle.marks.specs.Mark.{has}
 use Rattle.hoa_tokens.specs.declared.Word.the-variants as word-is
 use Rattle.hoa_tokens.specs.declared.Sign.the-variants as sign-is
-use Rattle.hoa_tokens.specs.Token.{Token, int, word, aname, sign}
+use Rattle.hoa_tokens.specs.Token.{Token, int, word, aname, sign, abort}
 
 mutual
   -- label = lconj ("|" lconj)*
@@ -88,6 +91,31 @@ unfoldable mutual
 abbrev pub mostLevels : ℕ
 mostLevels = 256
 
+-- a label with a propositions; one whose brackets nest at most `levels` deep besides
+pub record Fitting (a : ℕ) (l : Label) : Type 0 where
+  pub fits : labelFits l a
+
+pub record Within (levels a : ℕ) (l : Label) : Type 0 where
+  pub fits : labelFits l a
+  pub deep : labelDepth l ≤ levels
+
+-- any label of the grammar
+pub record Any (l : Label) : Type 0 where
+
+-- a label of this kind, shut by its `]`, begins with the tokens
+pub record Begins (P : Label → Type 0) (ts : List Token) : Type 0 where
+  pub label : Label
+  pub kind : P label
+  pub more : List Token
+  pub text : labelText label (sign sign-is.BracketRight ∷ []) ≡ ts ++ more
+
+-- t is faulty behind the tokens ts, with the lowest number that holds: 40 if no label begins with them, and t is not `--ABORT--`; 41 if none with a
+-- propositions does; 42 if only such do whose brackets nest deeper than `levels`
+pub data Fault (levels a : ℕ) (ts : List Token) (t : Token) : ℕ → Type 0 where
+  no-label : (t ≡ abort → ⊥) → (Begins Any (ts ++ t ∷ []) → ⊥) → Fault levels a ts t 40
+  none-fits : (t ≡ abort) ⊎ Begins Any (ts ++ t ∷ []) → (Begins (Fitting a) (ts ++ t ∷ []) → ⊥) → Fault levels a ts t 41
+  too-deep : Begins (Fitting a) (ts ++ t ∷ []) → (Begins (Within levels a) (ts ++ t ∷ []) → ⊥) → Fault levels a ts t 42
+
 -- ---- what a label means
 
 -- whether it holds where the propositions have these truth values; an ANAME stands for no proposition, and no label that fits has one
@@ -110,6 +138,15 @@ unfoldable mutual
 
 -- "some valuation of the a propositions makes it true"; a valuation is false from a on
 pub record Satisfiable (a : ℕ) (l : Label) : Type 0 where
-  pub valuation : ℕ → Bool
-  pub of-a : (i : ℕ) → a ≤ i → valuation i ≡ false
-  pub makes-true : labelHolds l valuation ≡ true
+  pub values : ℕ → Bool
+  pub of-a : (i : ℕ) → a ≤ i → values i ≡ false
+  pub makes-true : labelHolds l values ≡ true
+
+-- valuation v of at most 6 propositions: proposition i is true if bit i of v is 1
+unfoldable pub valuation : ℕ → ℕ → Bool
+valuation v i = eqb (v / 2 ^ i % 2) 1
+
+-- x is the label's set among the 64 valuations of 6 propositions
+pub record SetOf (l : Label) (x : ℕ) : Type 0 where
+  pub small : x < 2 ^ 64
+  pub each : (v : ℕ) → v < 64 → has v x ↔ (labelHolds l (valuation v) ≡ true)

@@ -22,22 +22,23 @@ use Rattle.hoa_label.specs.Label.{mostLevels}
 -- ---- sets of valuations
 
 -- all 64 valuations
-abbrev pub full : ℕ
+unfoldable pub full : ℕ
 full = 2 ^ 64 - 1
 
--- the valuations in which a proposition is true: v is one for proposition i if bit i of v is 1; none from 6 on
-unfoldable pub propSet : ℕ → ℕ
-propSet i =
-    getD
-    (
+-- for each proposition the valuations in which it is true: v is one for proposition i if bit i of v is 1
+abbrev pub propSets : List ℕ
+propSets =
     0xAAAAAAAAAAAAAAAA
     ∷ 0xCCCCCCCCCCCCCCCC
     ∷ 0xF0F0F0F0F0F0F0F0
     ∷ 0xFF00FF00FF00FF00
     ∷ 0xFFFF0000FFFF0000
     ∷ 0xFFFFFFFF00000000
-    ∷ [])
-    i 0
+    ∷ []
+
+-- none from the seventh proposition on
+unfoldable pub propSet : ℕ → ℕ
+propSet i = getD propSets i 0
 
 -- the set, or the valuations outside it
 abbrev pub turned : Bool → ℕ → ℕ
@@ -174,6 +175,26 @@ stepWithin levels a (has o c fs) t = onBehind o c fs (behind (isOutermost fs) t)
 unfoldable pub labelStep : ℕ → LabelState → Token → LabelStep
 labelStep a s t = stepWithin mostLevels a s t
 
+-- ---- tokens without their places
+
+pub data LabelWalk : Type 0 where
+  -- all tokens are admitted, and the label is not shut
+  going : LabelState → LabelWalk
+  -- the set of valuations, and the tokens behind `]`
+  closed : ℕ → List Token → LabelWalk
+  -- a token is faulty, with this number
+  faulty : ℕ → LabelWalk
+
+abbrev pub walkBy : LabelStep → List Token → (LabelState → LabelWalk) → LabelWalk
+walkBy (go s) ts more = more s
+walkBy (shut x) ts more = closed x ts
+walkBy (wrong n) ts more = faulty n
+
+-- the first token that is not admitted, or that shuts the label, decides
+unfoldable pub walkWithin : ℕ → ℕ → LabelState → List Token → LabelWalk
+walkWithin levels a s [] = going s
+walkWithin levels a s (t ∷ ts) = walkBy (stepWithin levels a s t) ts (λ u. walkWithin levels a u ts)
+
 -- ---- the tokens of a text
 
 pub data LabelEnd : Type 0 where
@@ -193,3 +214,13 @@ endBy (wrong n) place ps more = wrongAt n place
 unfoldable pub labelRun : ℕ → LabelState → List Placed → LabelEnd
 labelRun a s [] = cut
 labelRun a s (p ∷ ps) = endBy (labelStep a s (p .token)) (p .place) ps (λ t. labelRun a t ps)
+
+abbrev pub nextBy : LabelStep → ℕ → (LabelState → ℕ) → ℕ
+nextBy (go s) next more = more s
+nextBy (shut x) next more = next
+nextBy (wrong n) next more = 0
+
+-- the byte behind the token that shuts the label; 0 where none does
+unfoldable pub labelNext : ℕ → LabelState → List Placed → ℕ
+labelNext a s [] = 0
+labelNext a s (p ∷ ps) = nextBy (labelStep a s (p .token)) (p .next) (λ t. labelNext a t ps)

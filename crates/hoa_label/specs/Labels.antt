@@ -198,8 +198,8 @@ walkWithin levels a s (t ∷ ts) = walkBy (stepWithin levels a s t) ts (λ u. wa
 -- ---- the tokens of a text
 
 pub data LabelEnd : Type 0 where
-  -- the set of valuations, the place of `]`, and the tokens behind it
-  shutAt : ℕ → ℕ → List Placed → LabelEnd
+  -- the set of valuations, and the tokens behind `]`
+  shutAt : ℕ → List Placed → LabelEnd
   -- the number and the place
   wrongAt : ℕ → ℕ → LabelEnd
   -- no token is left
@@ -207,7 +207,7 @@ pub data LabelEnd : Type 0 where
 
 abbrev pub endBy : LabelStep → ℕ → List Placed → (LabelState → LabelEnd) → LabelEnd
 endBy (go s) place ps more = more s
-endBy (shut x) place ps more = shutAt x place ps
+endBy (shut x) place ps more = shutAt x ps
 endBy (wrong n) place ps more = wrongAt n place
 
 -- the first token that is not admitted, or that shuts the label, decides

@@ -13,7 +13,7 @@ use Rattle.hoa_label.specs.Labels.{labelBegin, LabelEnd, shutAt, wrongAt
 
 -- what a reading says of the run over the tokens
 abbrev pub labelEnd : List ℕ → LabelRead → LabelEnd
-labelEnd text (Shut set place next) = shutAt set place (tokensAt text next)
+labelEnd text (Shut set next) = shutAt set (tokensAt text next)
 labelEnd text (Refused number place) = wrongAt number place
 
 -- the byte behind the label
@@ -23,7 +23,7 @@ nextOf (Refused number place) = 0
 
 -- a label that is read ends behind where it began, within the text
 abbrev pub Onward : List ℕ → ℕ → LabelRead → Type 0
-Onward text at (Shut set place next) = (at < next) × (next ≤ length text)
+Onward text at (Shut set next) = (at < next) × (next ≤ length text)
 Onward text at (Refused number place) = Unit
 
 -- r is what the tokens of the text from `at` on, behind a label's `[`, give with a propositions

@@ -29,9 +29,9 @@ pub enum Behind {
     Wrong(u32),
 }
 
-// What reading a label gives: its set of valuations, the place of its `]` and the byte behind it, or the refusal.
+// What reading a label gives: its set of valuations and the byte behind its `]`, or the refusal.
 pub enum LabelRead {
-    Shut { set: u64, place: usize, next: usize },
+    Shut { set: u64, next: usize },
     Refused { number: u32, place: usize },
 }
 

@@ -13,7 +13,7 @@ use Rattle.hoa_tokens.proofs.Sizes.{byTest}
 use Rattle.job_text.specs.Value.{Edge, padTo}
 use Rattle.job_text.specs.Job.{mostJobEdges}
 use Rattle.hoa_rows.specs.Sorted.{leaving, sorted}
-use Rattle.hoa_rows.specs.inner.Copied.{Filled, between, Copied, firstOf, endOf, total, statesOf, partsOf}
+use Rattle.hoa_rows.specs.inner.Copied.{Filled, between, CopyRoom, Copied, firstOf, endOf, total, statesOf, partsOf}
 
 -- ---- one cell more
 
@@ -55,6 +55,57 @@ pub copy-more : (at first : ℕ) (source cells₀ cells : List ℕ) (i k : ℕ) 
     → CopyAt at first source cells₀ cells i k → CopyAt at first source cells₀ (set cells k (getD source i 0)) (i + 1) (k + 1)
 copy-more at first source cells₀ cells i k f l m h =
     rw (between-more first i source f l, add-one, take-suc-set cells k (getD source i 0) m, h, append-assoc)
+
+-- what holds while cells are filled, and while they are copied
+pub record Filling (first end value : ℕ) (cells₀ cells : List ℕ) (i : ℕ) : Type 0 where
+  pub low : first ≤ i
+  pub high : i ≤ end
+  pub size : length cells ≡ length cells₀
+  pub front : FillAt first value cells₀ cells i
+
+pub filling-none : (first end value : ℕ) (cells : List ℕ) → first ≤ end → Filling first end value cells cells first
+filling-none first end value cells l = record { low = omega arith; high = l; size = refl; front = fill-none first value cells }
+
+module _ (first end value : ℕ) (cells₀ cells : List ℕ) (i : ℕ) (h : Filling first end value cells₀ cells i) where
+  pub filling-more : i < end → end ≤ length cells₀ → Filling first end value cells₀ (set cells i value) (i + 1)
+  filling-more l m =
+      record {
+        low = omega (arith, h .low);
+        high = omega arith;
+        size = length-set cells i value ∙ h .size;
+        front = fill-more first value cells₀ cells i (h .low) (omega (arith, h .size)) (h .front);
+      }
+
+  pub filling-done : end ≤ i → Filled first end value cells₀ cells
+  filling-done l = let e : i ≡ end = omega (arith, h .high) in record { front = rw e at (h .front) }
+
+pub record Pasting (at first end : ℕ) (source cells₀ cells : List ℕ) (i k : ℕ) : Type 0 where
+  pub low : first ≤ i
+  pub high : i ≤ end
+  pub offset : k ≡ at + (i - first)
+  pub size : length cells ≡ length cells₀
+  pub front : CopyAt at first source cells₀ cells i k
+
+pub pasting-none : (at first end : ℕ) (source cells : List ℕ) → first ≤ end → Pasting at first end source cells cells first at
+pasting-none at first end source cells l =
+    record { low = omega arith; high = l; offset = omega arith; size = refl; front = copy-none at first source cells }
+
+module _ (at first end : ℕ) (source cells₀ cells : List ℕ) (i k : ℕ) (h : Pasting at first end source cells₀ cells i k) where
+  pub pasting-more : i < end → CopyRoom at first end source cells₀ → Pasting at first end source cells₀ (set cells k (getD source i 0)) (i + 1) (k + 1)
+  pasting-more l r =
+      record {
+        low = omega (arith, h .low);
+        high = omega arith;
+        offset = omega (arith, h .low, h .offset);
+        size = length-set cells k (getD source i 0) ∙ h .size;
+        front = copy-more at first source cells₀ cells i k (h .low) (omega (arith, r .there)) (omega (arith, h .size, h .offset, h .low, r .room)) (h .front);
+      }
+
+  pub pasting-done : end ≤ i → Copied at first end source cells₀ cells
+  pasting-done l =
+      let e : i ≡ end = omega (arith, h .high) in
+      let o : k ≡ at + (end - first) = omega (arith, h .offset, h .high) in
+      record { front = rw (e, o) at (h .front) }
 
 -- ---- edges by states
 

@@ -132,6 +132,22 @@ came-last : (seen : List ℕ) → (length seen ≡ 0 → ⊥) → (came (lastRow
 came-last [] n = absurd (n refl)
 came-last (q ∷ qs) n = (rw (eq-eqb q q refl), refl)
 
+pub some-set : (x : ℕ) → (x ≡ 0 → ⊥) → 0 < x
+some-set zero h = absurd (h refl)
+some-set (suc x) h = omega arith
+
+-- what an edge changes, by its valuations
+module _ (s : RowsSoFar) (x to m : ℕ) (tos sets ends : List ℕ) (n : ℕ) where
+  pub edge-dropped : x ≡ 0 → n ≡ max (s .largest) to
+      → EdgeKept s x to m tos sets ends tos sets ends (record { count = s .count; row = s .row; sig = s .sig; kept = s .kept; largest = n })
+  edge-dropped e q = rw (e, q) (record { is = refl; targets = refl; unions = refl; stops = refl })
+
+pub edge-kept : (s : RowsSoFar) (x to m : ℕ) (tos sets ends : List ℕ) (n : ℕ) → (x ≡ 0 → ⊥) → n ≡ max (s .largest) to
+    → EdgeKept s x to m tos sets ends (set tos (s .kept) to) (set sets (s .kept) m) (set ends (s .row) (s .kept + 1))
+      (record { count = s .count; row = s .row; sig = s .sig; kept = s .kept + 1; largest = n })
+edge-kept s zero to m tos sets ends n h q = absurd (h refl)
+edge-kept s (suc x) to m tos sets ends n h q = rw q (record { is = refl; targets = refl; unions = refl; stops = refl })
+
 module _ (b : Rows) (s : RowsSoFar) (tos sets firsts ends : List ℕ) (h : Holds b s tos sets firsts ends) where
   -- an edge that is kept
   kept-edge : (x to m : ℕ) → (s .count ≡ 0 → ⊥) → s .row < mostJobStates → s .kept < mostJobEdges

@@ -1,5 +1,7 @@
 -- Told: what a token is by its kind
 pub mod Told
+-- Signs: a mark of one byte takes one byte
+pub mod Signs
 -- Steps: the machine's steps at the token that is found, sigs and labels inside the rows
 pub mod Steps
 -- Holding: what a row and an edge change keeps the rows held
@@ -8,3 +10,5 @@ pub mod Holding
 pub mod Copying
 -- Reading: what the functions that read a sig, a row and an edge find makes a stretch of the machine
 pub mod Reading
+-- Turning: one entry of the rows, and all of them
+pub mod Turning

@@ -3,7 +3,7 @@ use mathlib.Core.Path.{_≡_, refl, sym, ap, _∙_}
 use mathlib.Core.Bool.{Bool, true, false, false≢true, cond, _||_, _&&_}
 use mathlib.Core.List.{List, [], _∷_}
 use mathlib.Core.Option.{Option, some, none}
-use Prim.Native.Nat.{ℕ, zero, suc, _≤_, _<_}
+use Prim.Native.Nat.{ℕ, zero, suc, _-_, _≤_, _<_}
 use native.Mathlib.Omega.{arith}
 use borrow.Author.Tests.{lt-ltb, le-ltb, le-leb, lt-leb}
 use denote.Enum.Declared
@@ -26,7 +26,7 @@ use Rattle.hoa_step.specs.Wanted.{Next, intFault, Faulty, IntReads}
 use Rattle.hoa_label.specs.declared.LabelRead.{LabelRead}
 use Rattle.hoa_label.specs.declared.LabelRead.the-variants as label-read
 use Rattle.hoa_label.specs.Labels as label
-use Rattle.hoa_label.specs.Labels.{labelBegin, labelRun}
+use Rattle.hoa_label.specs.Labels.{labelBegin, labelRun, labelNext}
 use Rattle.hoa_label.specs.Reading.{LabelAt}
 use Rattle.hoa_rows.proofs.Entry as entry-type
 use Rattle.hoa_rows.specs.declared.Limits.{Limits}
@@ -51,6 +51,7 @@ use Rattle.hoa_rows.specs.Rows.{came, labelled, onName, onSig, onMore, o
 use Rattle.hoa_rows.specs.inner.Held.{Listed}
 use Rattle.hoa_rows.specs.inner.Reads.{from, Onward, Behind, EntryHere, isFault, sigStepOf, sigEnd, SigOnward, SigAt, SigStays, LabelledAt, numberEnd, NumberAt, NameAt}
 use Rattle.hoa_rows.specs.inner.Reads.{rowSigEnd, RowSigAt, rowEnd, RowAt, targetEnd, TargetAt, edgeSigEnd, EdgeSigAt, edgeEnd, ToOnward, ToAt, EdgeOnward, EdgeAt}
+use Rattle.hoa_rows.proofs.Signs.{signs-take}
 use Rattle.hoa_rows.proofs.Steps.{moved, step-goes, step-ends, step-faults, step-same, afterSig, row-sig, edge-sig, afterLabel, in-label}
 
 -- ---- a sig, token by token
@@ -466,16 +467,20 @@ module _ (l : Limits) (text : List ℕ) (at before x : ℕ) where
         }
 
 module _ (l : Limits) (text : List ℕ) (at before kept : ℕ) where
+  labels : (b : Rows) → from l text at (inLabel labelBegin b)
+      ≡ afterLabel l b (labelRun (l .props) labelBegin (tokensAt text at)) (labelNext (l .props) labelBegin (tokensAt text at) - 1)
+  labels b = in-label l b (tokensAt text at) (signs-take text at) labelBegin
+
   pub edge-refused : {r : LabelRead} {n p : ℕ} → r ≡ label-read.Refused n p → LabelAt text at (l .props) r → EdgeAt l text at before kept (edge-read.Refused n p)
   edge-refused e h =
       let k = rw e at h in
-      record { is = λ b z m. in-label l b (tokensAt text at) labelBegin ∙ ap (afterLabel l b) (k .is); onward = tt }
+      record { is = λ b z m. labels b ∙ rw (k .is); onward = tt }
 
-  module _ {r : LabelRead} {x p next : ℕ} (e : r ≡ label-read.Shut x p next) (h : LabelAt text at (l .props) r) where
-    shut : (b : Rows) → from l text at (inLabel labelBegin b) ≡ afterLabel l b (label.shutAt x p (tokensAt text next))
-    shut b = let k = rw e at h in in-label l b (tokensAt text at) labelBegin ∙ ap (afterLabel l b) (k .is)
+  module _ {r : LabelRead} {x next : ℕ} (e : r ≡ label-read.Shut x next) (h : LabelAt text at (l .props) r) where
+    shut : (b : Rows) → from l text at (inLabel labelBegin b) ≡ afterLabel l b (label.shutAt x (tokensAt text next)) (next - 1)
+    shut b = let k = rw e at h in labels b ∙ rw (k .is, k .behind)
 
-    pub edge-full : 0 < x → mostJobEdges ≤ kept → EdgeAt l text at before kept (edge-read.Refused 42 p)
+    pub edge-full : 0 < x → mostJobEdges ≤ kept → EdgeAt l text at before kept (edge-read.Refused 42 (next - 1))
     edge-full o m =
         record { is = λ b z i. shut b ∙ rw (lt-ltb 0 x o, le-leb mostJobEdges (length (b .edges)) (omega (arith, i))); onward = tt }
 
@@ -483,7 +488,7 @@ module _ (l : Limits) (text : List ℕ) (at before kept : ℕ) where
     goes : (b : Rows) → length (b .edges) ≡ kept → (0 < x → kept < mostJobEdges) → from l text at (inLabel labelBegin b) ≡ from l text next (target x b)
     goes b i room = shut b ∙ by x room
       where
-        by : (y : ℕ) → (0 < y → kept < mostJobEdges) → afterLabel l b (label.shutAt y p (tokensAt text next)) ≡ from l text next (target y b)
+        by : (y : ℕ) → (0 < y → kept < mostJobEdges) → afterLabel l b (label.shutAt y (tokensAt text next)) (next - 1) ≡ from l text next (target y b)
         by zero w = refl
         by (suc y) w = rw (lt-ltb 0 (suc y) (omega arith), lt-leb mostJobEdges (length (b .edges)) (omega (arith, i, w (omega arith))))
 

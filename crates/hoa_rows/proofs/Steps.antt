@@ -2,7 +2,7 @@
 use mathlib.Core.Path.{_≡_, refl, sym, ap, _∙_}
 use mathlib.Core.Bool.{Bool, true, false, false≢true, cond, _||_, _&&_}
 use mathlib.Core.List.{List, [], _∷_}
-use Prim.Native.Nat.{ℕ, zero, suc, _≤_, _<_}
+use Prim.Native.Nat.{ℕ, zero, suc, _-_, _≤_, _<_}
 use native.Mathlib.Omega.{arith}
 use lib.Dec.{ltb, leb}
 use lib.ListN.{length}
@@ -15,7 +15,7 @@ use Rattle.hoa_tokens.proofs.Next.{tokens-next, token-takes}
 use Rattle.hoa_step.specs.Machine.{Step, End, go, done, wrong, doneAt, wrongAt, cut, endBy, run}
 use Rattle.hoa_step.specs.Wanted.{Next}
 use Rattle.hoa_label.specs.Labels as label
-use Rattle.hoa_label.specs.Labels.{LabelState, LabelStep, LabelEnd, labelStep, labelRun}
+use Rattle.hoa_label.specs.Labels.{LabelState, LabelStep, LabelEnd, labelStep, labelRun, labelNext}
 use Rattle.hoa_rows.specs.declared.Limits.{Limits}
 use Rattle.hoa_rows.specs.declared.Entry.{Entry}
 use Rattle.hoa_rows.specs.declared.Entry.the-variants as entry-is
@@ -23,6 +23,7 @@ use Rattle.hoa_rows.specs.Sig.{sigStep}
 use Rattle.hoa_rows.specs.Rows as spec
 use Rattle.hoa_rows.specs.Rows.{Rows, RowState, RowStep, entries, rowMarks, edgeMarks, inLabel, withSig, withEdge, onRowMarks, onEdgeMarks, onLabel, shutLabel, entryOf, rowStep}
 use Rattle.hoa_rows.specs.inner.Reads.{Onward, Behind, EntryHere, isFault}
+use Rattle.hoa_rows.proofs.Signs.{AllTake, isShut, shut-sign}
 
 -- ---- the token that is found
 
@@ -134,22 +135,27 @@ module _ (l : Limits) (b : Rows) where
 
 -- ---- a label inside the rows
 
--- where the label is shut the edge goes on, unless it finds no room
-abbrev pub afterLabel : Limits → Rows → LabelEnd → End spec.Kept
-afterLabel l b (label.shutAt x p ps) = endBy (shutLabel x b) p ps (λ t. run (rowStep l) ps t)
-afterLabel l b (label.wrongAt n p) = wrongAt n p
-afterLabel l b label.cut = cut
+-- where the label is shut at a place the edge goes on, unless it finds no room
+abbrev pub afterLabel : Limits → Rows → LabelEnd → ℕ → End spec.Kept
+afterLabel l b (label.shutAt x ps) place = endBy (shutLabel x b) place ps (λ t. run (rowStep l) ps t)
+afterLabel l b (label.wrongAt n p) place = wrongAt n p
+afterLabel l b label.cut place = cut
 
 module _ (l : Limits) (b : Rows) where
-  pub in-label : (ps : List Placed) (s : LabelState) → run (rowStep l) ps (inLabel s b) ≡ afterLabel l b (labelRun (l .props) s ps)
-  unfolding run rowStep labelRun
-  in-label [] s = refl
-  in-label (p ∷ ps) s = by (labelStep (l .props) s (p .token)) (λ s'. in-label ps s')
+  abbrev labelGives : List Placed → LabelState → End spec.Kept
+  labelGives ps s = afterLabel l b (labelRun (l .props) s ps) (labelNext (l .props) s ps - 1)
+
+  pub in-label : (ps : List Placed) → AllTake ps → (s : LabelState) → run (rowStep l) ps (inLabel s b) ≡ labelGives ps s
+  unfolding run rowStep labelRun labelNext
+  in-label [] h s = refl
+  in-label (p ∷ ps) h s =
+      by (labelStep (l .props) s (p .token)) (λ e. h .0 (shut-sign (l .props) s (p .token) e)) (in-label ps (h .1))
     where
-      by : (t : LabelStep)
-          → ((s' : LabelState) → run (rowStep l) ps (inLabel s' b) ≡ afterLabel l b (labelRun (l .props) s' ps))
+      by : (t : LabelStep) → (isShut t ≡ true → p .place ≡ p .next - 1)
+          → ((s' : LabelState) → run (rowStep l) ps (inLabel s' b) ≡ labelGives ps s')
           → endBy (onLabel b t) (p .place) ps (λ u. run (rowStep l) ps u)
           ≡ afterLabel l b (label.endBy t (p .place) ps (λ u. labelRun (l .props) u ps))
-      by (label.go s') later = later s'
-      by (label.shut x) later = refl
-      by (label.wrong n) later = refl
+            (label.nextBy t (p .next) (λ u. labelNext (l .props) u ps) - 1)
+      by (label.go s') place later = later s'
+      by (label.shut x) place later = ap (λ (n : ℕ). endBy (shutLabel x b) n ps (λ u. run (rowStep l) ps u)) (place refl)
+      by (label.wrong n) place later = refl

@@ -119,6 +119,9 @@ sig-sign m sign-is.BracketRight e = refl
 sig-sign m sign-is.Or e = refl
 sig-sign m sign-is.Not e = refl
 
+pub sig-shut : (m : ℕ) {s : Sign} → s ≡ sign-is.BraceRight → done m ≡ sigSign m s
+sig-shut m e = rw e
+
 abbrev sigKinds : List ℕ
 sigKinds = 1 ∷ 2 ∷ 3 ∷ 4 ∷ 6 ∷ 7 ∷ 9 ∷ 10 ∷ []
 

@@ -1,8 +1,8 @@
 // The kept edges by states, into the lent tables. Relies on nothing.
 ghost use mathlib.Core.Path.{_≡_};
-ghost use Prim.Native.Nat.{_+_, _-_, _≤_};
+ghost use Prim.Native.Nat.{_-_, _≤_};
 ghost use lib.ListN.{length};
-ghost use Rattle.hoa_rows.specs.inner.Copied.{Filled, Copied, Fitting, RowsCopied};
+ghost use Rattle.hoa_rows.specs.inner.Copied.{Filled, CopyRoom, Copied, Fitting, RowsCopied};
 
 // The cells from `first` up to `end` become a value.
 pub(crate) fn fill(cells: &mut [u32], first: usize, end: usize, value: u32)
@@ -18,7 +18,7 @@ pub(crate) fn fill(cells: &mut [u32], first: usize, end: usize, value: u32)
 
 // The cells from `at` on become those of the source from `first` up to `end`.
 fn copy_part(cells: &mut [u32], at: usize, source: &[u32; 512], first: usize, end: usize)
-    requires { ⌜ (first ≤ end) × (end ≤ 512) × (at + (end - first) ≤ length (now cells)) ⌝ }
+    requires { ⌜ CopyRoom at first end (now source) (now cells) ⌝ }
     ensures { λ _. ⌜ Copied at first end (now (source .entry)) (now (cells .entry)) (now (cells .exit)) ⌝ }
 {
     let mut i = first;
@@ -51,7 +51,7 @@ pub(crate) fn copy_rows(
     to: &mut [u32],
     marks: &mut [u32],
 )
-    requires { ⌜ Fitting states (now firsts) (now ends) (now from) (now to) (now marks) ⌝ }
+    requires { ⌜ Fitting states (now firsts) (now ends) (now tos) (now sets) (now from) (now to) (now marks) ⌝ }
     ensures { λ _. ⌜ RowsCopied states (now (firsts .entry)) (now (ends .entry)) (now (tos .entry)) (now (sets .entry)) (now (from .exit)) (now (to .exit)) (now (marks .exit)) ⌝ }
 {
     let mut q = 0;

@@ -5,12 +5,12 @@ use crate::row::MOST_STATES;
 use crate::row::not_below;
 use crate::sig::SigRead;
 use crate::sig::read_sig;
-use crate::stub::read_int;
-use crate::stub::read_label;
 use crate::token::entry_at;
 use hoa_label::LabelRead;
+use hoa_label::read_label;
 use hoa_step::Given;
 use hoa_step::IntRead;
+use hoa_step::read_int;
 ghost use Rattle.hoa_rows.specs.inner.Reads.{TargetAt, EdgeSigAt, ToAt, EdgeAt};
 
 // How many edges are kept at most.
@@ -104,10 +104,13 @@ pub(crate) fn read_edge(
 {
     match read_label(text, at, limits.props) {
         LabelRead::Refused { number, place } => EdgeRead::Refused { number, place },
-        LabelRead::Shut { set, place, next } => {
+        LabelRead::Shut { set, next } => {
             if 0 < set {
                 if MOST_EDGES <= kept {
-                    return EdgeRead::Refused { number: 42, place };
+                    return EdgeRead::Refused {
+                        number: 42,
+                        place: next - 1,
+                    };
                 }
             }
             read_to(text, next, limits, before, set)

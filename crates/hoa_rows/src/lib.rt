@@ -7,7 +7,6 @@ mod held;
 mod reader;
 mod row;
 mod sig;
-mod stub;
 mod token;
 
 use crate::copied::copy_rows;

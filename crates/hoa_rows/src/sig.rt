@@ -1,7 +1,7 @@
 // Signatures: the marks between `{` and `}`. Relies on `token` and on the crate `hoa_tokens`.
-use crate::stub::token_at;
 use hoa_tokens::Kind;
 use hoa_tokens::Sign;
+use hoa_tokens::token_at;
 ghost use mathlib.Core.Path.{_≡_};
 ghost use mathlib.Core.List.{List};
 ghost use Prim.Native.Nat.{ℕ};

@@ -1,9 +1,9 @@
 // What a token is where the rows stand. Relies on the crate `hoa_tokens`.
 use crate::Entry;
-use crate::stub::token_at;
 use hoa_tokens::Header;
 use hoa_tokens::Kind;
 use hoa_tokens::Sign;
+use hoa_tokens::token_at;
 ghost use mathlib.Core.Path.{_≡_};
 ghost use mathlib.Core.List.{List};
 ghost use Prim.Native.Nat.{ℕ};

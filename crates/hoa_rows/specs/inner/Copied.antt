@@ -12,6 +12,13 @@ pub record Filled (first end value : ℕ) (cells cells' : List ℕ) : Type 0 whe
 abbrev pub between : ℕ → ℕ → List ℕ → List ℕ
 between first end xs = take (end - first) (drop first xs)
 
+-- the part is within the source, and the cells are enough
+pub record CopyRoom (at first end : ℕ) (source cells : List ℕ) : Type 0 where
+  pub ordered : first ≤ end
+  pub within : end ≤ 512
+  pub there : end ≤ length source
+  pub room : at + (end - first) ≤ length cells
+
 -- as they were up to `at`, and then the source's cells
 pub record Copied (at first end : ℕ) (source cells cells' : List ℕ) : Type 0 where
   pub front : take (at + (end - first)) cells' ≡ take at cells ++ between first end source
@@ -40,8 +47,10 @@ partsOf firsts ends source zero = []
 partsOf firsts ends source (suc n) = partsOf firsts ends source n ++ between (firstOf firsts n) (endOf ends n) source
 
 -- each state's edges are among those that are kept, and the lent tables are long enough
-pub record Fitting (states : ℕ) (firsts ends from to marks : List ℕ) : Type 0 where
+pub record Fitting (states : ℕ) (firsts ends tos sets from to marks : List ℕ) : Type 0 where
   pub few : states ≤ 256
+  pub targets : length tos ≡ 512
+  pub unions : length sets ≡ 512
   pub ordered : (q : ℕ) → firstOf firsts q ≤ endOf ends q
   pub within : (q : ℕ) → endOf ends q ≤ 512
   pub from-room : total firsts ends states ≤ length from

@@ -1,54 +1,47 @@
+-- `held::keep_edge` meets its contract by whether a valuation satisfies the label. Assumes nothing.
+use denote.Ref.{now}
+use Rattle.hoa_rows.proofs.Holding.{edge-dropped, edge-kept, some-set}
 use native.Mathlib.Omega.{arith}
 use borrow.Author.Needs.{needs}
 use Rattle.hoa_rows.proofs.held.keep_edge.Statement.{statement}
 use Rattle.hoa_rows.proofs.held.keep_edge.Tie as tie
-use Rattle.hoa_rows.proofs.held.keep_edge.Reads as reads
-use Rattle.hoa_rows.proofs.held.keep_edge.Lts as lts
-use Rattle.hoa_rows.proofs.held.larger.Reads as larger-reads
 
--- src/held.rt:74:9
 larger-requires : tie.Need-larger-requires
 larger-requires c κs = search needs
 
--- src/held.rt:76:9
 returns : tie.Need-returns
-returns c = search needs
+returns c =
+    let a = c .before .before .args in
+    edge-dropped (a .rows) (a .set) (a .to) (a .marks) (now (a .tos)) (now (a .sets)) (now (a .ends)) _ (c .if1 .taken) (c .before .larger .ensures)
 
--- src/held.rt:84:5
 mul-tos : tie.Need-mul-tos
 mul-tos c = search needs
 
--- src/held.rt:84:5
 element-write-tos : tie.Need-element-write-tos
-element-write-tos c = search needs
+element-write-tos c = let at-entry = c .before .before in omega (arith, at-entry .pre .one-more (some-set (at-entry .args .set) (c .if1 .left)))
 
--- src/held.rt:85:5
 mul-sets : tie.Need-mul-sets
 mul-sets c = search needs
 
--- src/held.rt:85:5
 element-write-sets : tie.Need-element-write-sets
-element-write-sets c = search needs
+element-write-sets c = let at-entry = c .before .before in omega (arith, at-entry .pre .one-more (some-set (at-entry .args .set) (c .if1 .left)))
 
--- src/held.rt:86:17
 add-ends : tie.Need-add-ends
 add-ends c = search needs
 
--- src/held.rt:86:5
 mul-ends : tie.Need-mul-ends
 mul-ends c = search needs
 
--- src/held.rt:86:5
 element-write-ends : tie.Need-element-write-ends
 element-write-ends c = search needs
 
--- src/held.rt:91:15
 add-t14 : tie.Need-add-t14
 add-t14 c = search needs
 
--- src/held.rt:58:1
 returns-2 : tie.Need-returns-2
-returns-2 c = search needs
+returns-2 c =
+    let a = c .before .before .args in
+    edge-kept (a .rows) (a .set) (a .to) (a .marks) (now (a .tos)) (now (a .sets)) (now (a .ends)) _ (c .if1 .left) (c .before .larger .ensures)
 
 pub keep-edge-spec : {M : Type 1} → statement M
 keep-edge-spec =

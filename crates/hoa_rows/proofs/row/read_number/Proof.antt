@@ -1,64 +1,69 @@
+-- `row::read_number` meets its contract: the tests come in the order of the rule. Assumes nothing.
+use mathlib.Core.Path.{sym, _∙_}
+use denote.Ref.{now}
+use Rattle.hoa_rows.proofs.Reading.{number-refused, number-above, number-large, number-twice, number-new}
 use native.Mathlib.Omega.{arith}
 use borrow.Author.Needs.{needs}
 use Rattle.hoa_rows.proofs.row.read_number.Statement.{statement}
 use Rattle.hoa_rows.proofs.row.read_number.Tie as tie
-use Rattle.hoa_rows.proofs.row.read_number.Reads as reads
-use Rattle.hoa_rows.proofs.row.read_number.Lts as lts
-use Rattle.hoa_rows.proofs.row.not_below.Reads as not-below-reads
-use Rattle.hoa_rows.proofs.row.number_fault.Reads as number-fault-reads
-use Rattle.hoa_rows.proofs.stub.read_int.Reads as read-int-reads
 
--- src/row.rt:55:11
 read-int-requires : tie.Need-read-int-requires
 read-int-requires c κs = search needs
 
--- src/row.rt:56:28
 enum-known-number : tie.Need-enum-known-number
 enum-known-number c = search needs
 
--- src/row.rt:57:21
 number-fault-requires : tie.Need-number-fault-requires
 number-fault-requires c κs = search needs
 
--- src/row.rt:60:26
 enum-known-value : tie.Need-enum-known-value
 enum-known-value c = search needs
 
--- src/row.rt:61:16
 not-below-requires : tie.Need-not-below-requires
 not-below-requires c κs = search needs
 
--- src/row.rt:62:17
 returns : tie.Need-returns
-returns c = search needs
+returns c =
+    let at-value = c .before .before .before in
+    let a = at-value .before .before .before .before .args in
+    let i = at-value .before .before .read-int in
+    number-above (a .states) (now (a .text)) (a .at) (now (a .firsts)) (at-value .value .given .1) (i .ensures) (sym (c .before .not-below .ensures) ∙ c .if1 .taken))
 
--- src/row.rt:65:17
 returns-2 : tie.Need-returns-2
-returns-2 c = search needs
+returns-2 c =
+    let at-value = c .before .before .before .before in
+    let a = at-value .before .before .before .before .args in
+    let i = at-value .before .before .read-int in
+    number-large (a .states) (now (a .text)) (a .at) (now (a .firsts)) (at-value .value .given .1) (i .ensures) (sym (c .before .before .not-below .ensures) ∙ c .before .if1 .left)) (c .if2 .taken)
 
--- src/row.rt:67:21
 cast-q : tie.Need-cast-q
 cast-q c = search needs
 
--- src/row.rt:68:16
 mul-if3 : tie.Need-mul-if3
 mul-if3 c = search needs
 
--- src/row.rt:68:16
 element-copy-out-if3 : tie.Need-element-copy-out-if3
 element-copy-out-if3 c = search needs
 
--- src/row.rt:69:17
 returns-3 : tie.Need-returns-3
-returns-3 c = search needs
+returns-3 c =
+    let at-value = c .before .before .before .before .before .before in
+    let a = at-value .before .before .before .before .args in
+    let i = at-value .before .before .read-int in
+    number-twice (a .states) (now (a .text)) (a .at) (now (a .firsts)) (at-value .value .given .1) (i .ensures) (sym (c .before .before .before .before .not-below .ensures) ∙ c .before .before .before .if1 .left)) (c .before .before .if2 .left) (c .if3 .taken)
 
--- src/row.rt:52:1
 returns-4 : tie.Need-returns-4
-returns-4 c = search needs
+returns-4 c =
+    let a = c .before .before .before .before .before .before .args in
+    let i = c .before .before .before .before .read-int in
+    number-refused (a .states) (now (a .text)) (a .at) (now (a .firsts)) _ (c .before .before .number .given .1) (i .ensures) ∙ c .number-fault .ensures)
 
--- src/row.rt:52:1
 returns-5 : tie.Need-returns-5
-returns-5 c = search needs
+returns-5 c =
+    let at-value = c .before .before .before .before .before .before in
+    let a = at-value .before .before .before .before .args in
+    let i = at-value .before .before .read-int in
+    number-new (a .states) (now (a .text)) (a .at) (now (a .firsts)) (at-value .value .given .1) (i .ensures) (sym (c .before .before .before .before .not-below .ensures) ∙ c .before .before .before .if1 .left)) (c .before .before .if2 .left) (c .if3 .left)
 
 pub read-number-spec : {M : Type 1} → statement M
 read-number-spec =

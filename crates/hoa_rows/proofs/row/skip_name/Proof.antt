@@ -1,26 +1,28 @@
+-- `row::skip_name` meets its contract: a name leads on, and any other token does there what it does behind a name. Assumes nothing.
+use denote.Ref.{now}
+use Rattle.hoa_rows.proofs.Reading.{name-goes, name-stays}
 use native.Mathlib.Omega.{arith}
 use borrow.Author.Needs.{needs}
 use Rattle.hoa_rows.proofs.row.skip_name.Statement.{statement}
 use Rattle.hoa_rows.proofs.row.skip_name.Tie as tie
-use Rattle.hoa_rows.proofs.row.skip_name.Reads as reads
-use Rattle.hoa_rows.proofs.row.skip_name.Lts as lts
-use Rattle.hoa_rows.proofs.token.entry_at.Reads as entry-at-reads
 
--- src/row.rt:83:9
 entry-at-requires : tie.Need-entry-at-requires
 entry-at-requires c κs = search needs
 
--- src/row.rt:86:9
 enum-told : tie.Need-enum-told
 enum-told c = search needs
 
--- src/row.rt:86:9
 returns : tie.Need-returns
-returns c = search needs
+returns c =
+    let a = c .before .before .before .before .args in
+    let e = c .before .before .entry-at in
+    name-goes (now (a .text)) (a .at) (e .result) (e .ensures) (c .enum-told .given .1)
 
--- src/row.rt:80:1
 returns-2 : tie.Need-returns-2
-returns-2 c = search needs
+returns-2 c =
+    let a = c .before .before .before .args in
+    let e = c .before .entry-at in
+    name-stays (now (a .text)) (a .at) (e .result) (e .ensures) (c .match .keys2)
 
 pub skip-name-spec : {M : Type 1} → statement M
 skip-name-spec = tie.close (tie.spec entry-at-requires enum-told returns returns-2)

@@ -1,57 +1,70 @@
+-- `sig::read_sig` meets its contract: each turn takes one token (`sig-goes`, `sig-shuts`, `sig-faults`). The measure is what is left of the text. Assumes nothing.
+use mathlib.Core.Path.{refl}
+use Prim.Native.Nat.{_-_}
+use lib.ListN.{length}
+use denote.Ref.{now}
+use Rattle.hoa_rows.proofs.Reading.{SigSoFar, sig-goes, sig-shuts, sig-faults}
 use borrow.Author.Needs.{needs}
 use native.Mathlib.Omega.{arith}
 use Rattle.hoa_rows.proofs.sig.read_sig.Statement.{statement}
 use Rattle.hoa_rows.proofs.sig.read_sig.Tie as tie
-use Rattle.hoa_rows.proofs.sig.read_sig.Reads as reads
-use Rattle.hoa_rows.proofs.sig.read_sig.Lts as lts
-use Rattle.hoa_rows.proofs.sig.sig_token.Reads as sig-token-reads
-use Rattle.hoa_rows.proofs.stub.token_at.Reads as token-at-reads
 
 abbrev Inv-loop : tie.InvT-loop
-Inv-loop text at c before marks₀ place₀ marks place = ?
+Inv-loop text at c before marks₀ place₀ marks place = SigSoFar text at c before place marks
 
 abbrev μ-loop : tie.MeasureT-loop
-μ-loop text at c before marks₀ place₀ marks place = ?
+μ-loop text at c before marks₀ place₀ marks place = length text - place
 
--- src/sig.rt:68:5
 loop-holds : tie.Need-loop-holds Inv-loop μ-loop
-loop-holds c = search needs
+loop-holds c = record { is = refl; behind = omega arith }
 
--- src/sig.rt:69:13
 token-at-requires : tie.Need-token-at-requires Inv-loop μ-loop
 token-at-requires c κs = search needs
 
--- src/sig.rt:71:15
 sig-token-requires : tie.Need-sig-token-requires Inv-loop μ-loop
 sig-token-requires c κs = search needs
 
--- src/sig.rt:72:25
 enum-known-more : tie.Need-enum-known-more Inv-loop μ-loop
 enum-known-more c = search needs
 
--- src/sig.rt:68:5
 loop-less : tie.Need-loop-less Inv-loop μ-loop
-loop-less c = search needs
+loop-less c =
+    let at-loop = c .before .before .before .before .before in
+    let a = at-loop .before .before .args in
+    let f = c .before .before .before .before .token-at in
+    let t = c .before .before .before .sig-token in
+    let g = sig-goes (now (a .text)) (a .at) (a .c) (a .before) (at-loop .loop .place) (at-loop .loop .marks) (at-loop .loop .inv) (f .result) (f .ensures) (t .result) (t .ensures) _ (c .before .more .given .1) in
+    omega (arith, g .onward .behind, g .onward .within)
 
--- src/sig.rt:68:5
 loop-again : tie.Need-loop-again Inv-loop μ-loop
-loop-again c = search needs
+loop-again c =
+    let at-loop = c .before .before .before .before .before in
+    let a = at-loop .before .before .args in
+    let f = c .before .before .before .before .token-at in
+    let t = c .before .before .before .sig-token in
+    sig-goes (now (a .text)) (a .at) (a .c) (a .before) (at-loop .loop .place) (at-loop .loop .marks) (at-loop .loop .inv) (f .result) (f .ensures) (t .result) (t .ensures) _ (c .before .more .given .1) .so-far
 
--- src/sig.rt:76:27
 enum-known-all : tie.Need-enum-known-all Inv-loop μ-loop
 enum-known-all c = search needs
 
--- src/sig.rt:77:17
 returns : tie.Need-returns Inv-loop μ-loop
-returns c = search needs
+returns c =
+    let at-loop = c .before .before .before .before .before in
+    let a = at-loop .before .before .args in
+    let f = c .before .before .before .before .token-at in
+    let t = c .before .before .before .sig-token in
+    sig-shuts (now (a .text)) (a .at) (a .c) (a .before) (at-loop .loop .place) (at-loop .loop .marks) (at-loop .loop .inv) (f .result) (f .ensures) (t .result) (t .ensures) _ (c .before .all .given .1)
 
--- src/sig.rt:82:28
 enum-known-number : tie.Need-enum-known-number Inv-loop μ-loop
 enum-known-number c = search needs
 
--- src/sig.rt:83:17
 returns-2 : tie.Need-returns-2 Inv-loop μ-loop
-returns-2 c = search needs
+returns-2 c =
+    let at-loop = c .before .before .before .before .before in
+    let a = at-loop .before .before .args in
+    let f = c .before .before .before .before .token-at in
+    let t = c .before .before .before .sig-token in
+    sig-faults (now (a .text)) (a .at) (a .c) (a .before) (at-loop .loop .place) (at-loop .loop .marks) (at-loop .loop .inv) (f .result) (f .ensures) (t .result) (t .ensures) _ (c .before .number .given .1)
 
 pub read-sig-spec : {M : Type 1} → statement M
 read-sig-spec =

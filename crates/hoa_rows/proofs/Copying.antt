@@ -5,15 +5,15 @@ use mathlib.Core.List.{List, [], _∷_, _++_, map, append-assoc, append-nil, map
 use Prim.Native.Nat.{ℕ, zero, suc, _+_, _-_, _≤_, _<_}
 use native.Mathlib.Omega.{arith}
 use native.Mathlib.Numerals.{add-one}
-use borrow.Author.Tests.{eqb-true}
-use lib.Dec.{eqb}
+use borrow.Author.Tests.{eqb-true, leb-true, leb-false}
+use lib.Dec.{eqb, leb}
 use lib.ListN.{length, getD, set, take, drop, replicate, length-append, length-take, length-drop, length-map, length-replicate, length-set}
 use lib.Seq.{take-suc, take-suc-set, take-append-le, drop-append-le, getD-drop, take-add, take-length, take-set-le}
 use Rattle.hoa_tokens.proofs.Sizes.{byTest}
 use Rattle.job_text.specs.Value.{Edge, padTo}
 use Rattle.job_text.specs.Job.{mostJobEdges}
 use Rattle.hoa_rows.specs.Sorted.{leaving, sorted}
-use Rattle.hoa_rows.specs.inner.Copied.{Filled, between, CopyRoom, Copied, firstOf, endOf, total, statesOf, partsOf}
+use Rattle.hoa_rows.specs.inner.Copied.{Filled, between, CopyRoom, Copied, firstOf, endOf, total, statesOf, partsOf, Fitting, RowsCopied}
 
 -- ---- one cell more
 
@@ -166,3 +166,88 @@ module _ (es : List Edge) (firsts ends : List ℕ) (d : Parted es firsts ends) w
           rw (e, between-padded mostJobEdges f g (map part es) (d .ordered n) (omega (arith, d .within n, length-map es part)), ← map-drop part f es, ← map-take part (g - f) (drop f es), d .parts n)
       in
       rw (map-append part (sorted n es) (leaving n es), parts-sorted part source e n, h)
+
+-- ---- state by state
+
+pub total-le : (firsts ends : List ℕ) (q n : ℕ) → q ≤ n → total firsts ends q ≤ total firsts ends n
+total-le firsts ends q zero l = let e : q ≡ 0 = omega arith in rw e (omega arith)
+total-le firsts ends q (suc n) l =
+    byTest (leb q n) (λ t. omega (arith, total-le firsts ends q n (leb-true q n t)))
+    (λ t. let e : q ≡ suc n = omega (arith, leb-false q n t) in rw e (omega arith))
+
+-- what holds while the states are copied
+pub record Sorting (states : ℕ) (firsts ends tos sets from₀ to₀ marks₀ from to marks : List ℕ) (q m : ℕ) : Type 0 where
+  pub low : q ≤ states
+  pub many : m ≡ total firsts ends q
+  pub from-size : length from ≡ length from₀
+  pub to-size : length to ≡ length to₀
+  pub marks-size : length marks ≡ length marks₀
+  pub front : RowsCopied q firsts ends tos sets from to marks
+
+pub sorting-none : (states : ℕ) (firsts ends tos sets from to marks : List ℕ) → Sorting states firsts ends tos sets from to marks from to marks 0 0
+sorting-none states firsts ends tos sets from to marks =
+    record {
+      low = omega arith;
+      many = refl;
+      from-size = refl;
+      to-size = refl;
+      marks-size = refl;
+      front = record { froms = refl; targets = refl; unions = refl };
+    }
+
+module _ (states : ℕ) (firsts ends tos sets from₀ to₀ marks₀ from to marks : List ℕ) (q m : ℕ)
+    (h : Sorting states firsts ends tos sets from₀ to₀ marks₀ from to marks q m) (f : Fitting states firsts ends tos sets from₀ to₀ marks₀) (l : q < states) where
+  -- the next state finds room
+  pub sorting-room : m + (endOf ends q - firstOf firsts q) ≤ total firsts ends states
+  sorting-room = omega (arith, h .many, total-le firsts ends (suc q) states l)
+
+  pub room-from : m + (endOf ends q - firstOf firsts q) ≤ length from
+  room-from = omega (arith, sorting-room, f .from-room, h .from-size)
+
+  pub room-to : CopyRoom m (firstOf firsts q) (endOf ends q) tos to
+  room-to =
+      record {
+        ordered = f .ordered q;
+        within = f .within q;
+        there = omega (arith, f .within q, f .targets);
+        room = omega (arith, sorting-room, f .to-room, h .to-size);
+      }
+
+  pub room-marks : CopyRoom m (firstOf firsts q) (endOf ends q) sets marks
+  room-marks =
+      record {
+        ordered = f .ordered q;
+        within = f .within q;
+        there = omega (arith, f .within q, f .unions);
+        room = omega (arith, sorting-room, f .marks-room, h .marks-size);
+      }
+
+  pub sorting-more : (from' to' marks' : List ℕ) (first next : ℕ) → first ≡ firstOf firsts q → next ≡ m + (endOf ends q - first)
+      → length from' ≡ length from → length to' ≡ length to → length marks' ≡ length marks
+      → Filled m next q from from' → Copied m first (endOf ends q) tos to to' → Copied m first (endOf ends q) sets marks marks'
+      → Sorting states firsts ends tos sets from₀ to₀ marks₀ from' to' marks' (q + 1) next
+  sorting-more from' to' marks' first next e n a b c x y z =
+      let k : next ≡ total firsts ends (suc q) = omega (arith, n, h .many, ap (λ (i : ℕ). endOf ends q - i) e) in
+      let d : next - m ≡ endOf ends q - firstOf firsts q = omega (arith, n, ap (λ (i : ℕ). endOf ends q - i) e) in
+      let w : m + (endOf ends q - first) ≡ total firsts ends (suc q) = sym n ∙ k in
+      let s : q + 1 ≡ suc q = add-one q in
+      record {
+        low = omega arith;
+        many = rw s k;
+        from-size = a ∙ h .from-size;
+        to-size = b ∙ h .to-size;
+        marks-size = c ∙ h .marks-size;
+        front =
+            rw s
+            (record {
+              froms = rw (d, k, h .many, h .front .froms) at (x .front);
+              targets = rw (w, e, h .many, h .front .targets) at (y .front);
+              unions = rw (w, e, h .many, h .front .unions) at (z .front);
+            });
+      }
+
+pub sorting-done : (states : ℕ) (firsts ends tos sets from₀ to₀ marks₀ from to marks : List ℕ) (q m : ℕ)
+    → Sorting states firsts ends tos sets from₀ to₀ marks₀ from to marks q m → states ≤ q → RowsCopied states firsts ends tos sets from to marks
+sorting-done states firsts ends tos sets from₀ to₀ marks₀ from to marks q m h l =
+    let e : q ≡ states = omega (arith, h .low) in
+    rw e at (h .front)

@@ -12,3 +12,5 @@ pub mod Copying
 pub mod Reading
 -- Turning: one entry of the rows, and all of them
 pub mod Turning
+-- Worth: what rows that are read to their end keep is a table's worth
+pub mod Worth

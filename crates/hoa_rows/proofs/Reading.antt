@@ -466,6 +466,9 @@ module _ (l : Limits) (text : List ℕ) (at before x : ℕ) where
           onward = (record { behind = omega (arith, o .behind, k .onward .0); within = k .onward .1 (o .within) }, refl);
         }
 
+pub label-onward : {text : List ℕ} {at a : ℕ} {r : LabelRead} {x next : ℕ} → r ≡ label-read.Shut x next → LabelAt text at a r → at < next
+label-onward e h = let k = rw e at h in k .onward .0
+
 module _ (l : Limits) (text : List ℕ) (at before kept : ℕ) where
   labels : (b : Rows) → from l text at (inLabel labelBegin b)
       ≡ afterLabel l b (labelRun (l .props) labelBegin (tokensAt text at)) (labelNext (l .props) labelBegin (tokensAt text at) - 1)

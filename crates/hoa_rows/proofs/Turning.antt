@@ -186,7 +186,7 @@ module _ (l : Limits) (text : List ℕ) (at : ℕ) (s : RowsSoFar) (room : Room 
 
 -- ---- an entry
 
-abbrev isWrong : Admitted → Bool
+abbrev pub isWrong : Admitted → Bool
 isWrong admitted-is.Row = false
 isWrong admitted-is.Edge = false
 isWrong admitted-is.Close = false

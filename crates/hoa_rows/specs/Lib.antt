@@ -8,3 +8,5 @@ pub mod Sorted
 pub mod Lent
 -- inner: what private functions ask and promise
 pub mod inner
+-- Worth: what is kept is a table's worth
+pub mod Worth

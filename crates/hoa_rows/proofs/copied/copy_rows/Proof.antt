@@ -1,94 +1,112 @@
+-- `copied::copy_rows` meets its contract: after q states their edges stand in front (`Sorting`). The measure is the states left. Assumes nothing.
+use mathlib.Core.Path.{refl}
+use Prim.Native.Nat.{_-_}
+use denote.Ref.{now}
+use Rattle.hoa_rows.proofs.Copying.{Sorting, sorting-none, room-from, room-to, room-marks, sorting-more, sorting-done}
 use borrow.Author.Needs.{needs}
 use native.Mathlib.Omega.{arith}
 use Rattle.hoa_rows.proofs.copied.copy_rows.Statement.{statement}
 use Rattle.hoa_rows.proofs.copied.copy_rows.Tie as tie
-use Rattle.hoa_rows.proofs.copied.copy_rows.Reads as reads
-use Rattle.hoa_rows.proofs.copied.copy_rows.Lts as lts
-use Rattle.hoa_rows.proofs.copied.copy_part.Reads as copy-part-reads
-use Rattle.hoa_rows.proofs.copied.fill.Reads as fill-reads
-use Rattle.hoa_rows.proofs.copied.index_of.Reads as index-of-reads
 
 abbrev Inv-loop : tie.InvT-loop
-Inv-loop states firsts ends tos sets from₀ to₀ marks₀ q₀ m₀ from to marks q m = ?
+Inv-loop states firsts ends tos sets from₀ to₀ marks₀ q₀ m₀ from to marks q m =
+    Sorting states firsts ends tos sets from₀ to₀ marks₀ from to marks q m
 
 abbrev μ-loop : tie.MeasureT-loop
-μ-loop states firsts ends tos sets from₀ to₀ marks₀ q₀ m₀ from to marks q m = ?
+μ-loop states firsts ends tos sets from₀ to₀ marks₀ q₀ m₀ from to marks q m = states - q
 
--- src/copied.rt:59:5
 loop-holds : tie.Need-loop-holds Inv-loop μ-loop
-loop-holds c = search needs
+loop-holds c = sorting-none _ _ _ _ _ _ _ _
 
--- src/copied.rt:60:30
 mul-index-of : tie.Need-mul-index-of Inv-loop μ-loop
 mul-index-of c = search needs
 
--- src/copied.rt:60:30
 element-copy-out-index-of : tie.Need-element-copy-out-index-of Inv-loop μ-loop
 element-copy-out-index-of c = search needs
 
--- src/copied.rt:60:13
 index-of-requires : tie.Need-index-of-requires Inv-loop μ-loop
 index-of-requires c κs = search needs
 
--- src/copied.rt:61:19
 mul-end : tie.Need-mul-end Inv-loop μ-loop
 mul-end c = search needs
 
--- src/copied.rt:61:19
 element-copy-out-end : tie.Need-element-copy-out-end Inv-loop μ-loop
 element-copy-out-end c = search needs
 
--- src/copied.rt:62:25
 sub-next : tie.Need-sub-next Inv-loop μ-loop
-sub-next c = search needs
+sub-next c =
+    let at-loop = c .before .before .before .before in
+    let at-entry = at-loop .before .before .before .before in
+    let a = at-entry .args in
+    let l = at-loop .loop in
+    rw (c .before .index-of .ensures) (at-entry .pre .ordered (l .q))
 
--- src/copied.rt:62:20
 add-next : tie.Need-add-next Inv-loop μ-loop
-add-next c = search needs
+add-next c =
+    let at-loop = c .before .before .before .before in
+    let at-entry = at-loop .before .before .before .before in
+    let a = at-entry .args in
+    let l = at-loop .loop in
+    rw (c .before .index-of .ensures) (omega (arith, room-from (a .states) (now (a .firsts)) (now (a .ends)) (now (a .tos)) (now (a .sets)) (now (a .from)) (now (a .to)) (now (a .marks)) (l .from) (l .to) (l .marks) (l .q) (l .m) (l .inv) (at-entry .pre) (c .before .before .before .loop-test .taken), l .inv .from-size, at-entry .good))
 
--- src/copied.rt:63:29
 cast-fill : tie.Need-cast-fill Inv-loop μ-loop
-cast-fill c = search needs
+cast-fill c =
+    let at-loop = c .before .before .before .before .before in
+    let at-entry = at-loop .before .before .before .before in
+    let a = at-entry .args in
+    let l = at-loop .loop in
+    omega (arith, at-entry .pre .few, c .before .before .before .before .loop-test .taken)
 
--- src/copied.rt:63:9
 fill-requires : tie.Need-fill-requires Inv-loop μ-loop
-fill-requires c κs = search needs
+fill-requires c κs =
+    let at-loop = c .before .before .before .before .before in
+    let at-entry = at-loop .before .before .before .before in
+    let a = at-entry .args in
+    let l = at-loop .loop in
+    rw (c .before .before .index-of .ensures) (omega arith, room-from (a .states) (now (a .firsts)) (now (a .ends)) (now (a .tos)) (now (a .sets)) (now (a .from)) (now (a .to)) (now (a .marks)) (l .from) (l .to) (l .marks) (l .q) (l .m) (l .inv) (at-entry .pre) (c .before .before .before .before .loop-test .taken))
 
--- src/copied.rt:64:9
 copy-part-requires : tie.Need-copy-part-requires Inv-loop μ-loop
-copy-part-requires c κs = search needs
+copy-part-requires c κs =
+    let at-loop = c .before .before .before .before .before .before .before .before .before in
+    let at-entry = at-loop .before .before .before .before in
+    let a = at-entry .args in
+    let l = at-loop .loop in
+    rw (c .before .before .before .before .before .before .index-of .ensures) (room-to (a .states) (now (a .firsts)) (now (a .ends)) (now (a .tos)) (now (a .sets)) (now (a .from)) (now (a .to)) (now (a .marks)) (l .from) (l .to) (l .marks) (l .q) (l .m) (l .inv) (at-entry .pre) (c .before .before .before .before .before .before .before .before .loop-test .taken))
 
--- src/copied.rt:65:9
 copy-part-requires-2 : tie.Need-copy-part-requires-2 Inv-loop μ-loop
-copy-part-requires-2 c κs = search needs
+copy-part-requires-2 c κs =
+    let at-loop = c .before .before .before .before .before .before .before .before .before .before .before .before .before in
+    let at-entry = at-loop .before .before .before .before in
+    let a = at-entry .args in
+    let l = at-loop .loop in
+    rw (c .before .before .before .before .before .before .before .before .before .before .index-of .ensures) (room-marks (a .states) (now (a .firsts)) (now (a .ends)) (now (a .tos)) (now (a .sets)) (now (a .from)) (now (a .to)) (now (a .marks)) (l .from) (l .to) (l .marks) (l .q) (l .m) (l .inv) (at-entry .pre) (c .before .before .before .before .before .before .before .before .before .before .before .before .loop-test .taken))
 
--- src/copied.rt:67:9
 add-q : tie.Need-add-q Inv-loop μ-loop
 add-q c = search needs
 
--- src/copied.rt:59:5
 loop-less : tie.Need-loop-less Inv-loop μ-loop
 loop-less c = search needs
 
--- src/copied.rt:59:5
 loop-again : tie.Need-loop-again Inv-loop μ-loop
-loop-again c = search needs
+loop-again c =
+    let at-loop = c .before .before .before .before .before .before .before .before .before .before .before .before .before .before .before .before in
+    let at-entry = at-loop .before .before .before .before in
+    let a = at-entry .args in
+    let l = at-loop .loop in
+    sorting-more (a .states) (now (a .firsts)) (now (a .ends)) (now (a .tos)) (now (a .sets)) (now (a .from)) (now (a .to)) (now (a .marks)) (l .from) (l .to) (l .marks) (l .q) (l .m) (l .inv) (at-entry .pre) (c .before .before .before .before .before .before .before .before .before .before .before .before .before .before .before .loop-test .taken) _ _ _ _ _ (c .before .before .before .before .before .before .before .before .before .before .before .before .before .index-of .ensures) refl
+    (c .before .before .before .before .before .before .before .before .before .before .fill .kept .0) (c .before .before .before .before .before .before .copy-part .kept .0) (c .before .before .copy-part2 .kept .0) (c .before .before .before .before .before .before .before .before .before .before .fill .ensures) (c .before .before .before .before .before .before .copy-part .ensures) (c .before .before .copy-part2 .ensures)
 
--- src/copied.rt:44:1
 same-length : tie.Need-same-length Inv-loop μ-loop
-same-length c = search needs
+same-length c = c .before .loop .inv .from-size
 
--- src/copied.rt:44:1
 same-length-2 : tie.Need-same-length-2 Inv-loop μ-loop
-same-length-2 c = search needs
+same-length-2 c = c .before .loop .inv .to-size
 
--- src/copied.rt:44:1
 same-length-3 : tie.Need-same-length-3 Inv-loop μ-loop
-same-length-3 c = search needs
+same-length-3 c = c .before .loop .inv .marks-size
 
--- src/copied.rt:44:1
 returns : tie.Need-returns Inv-loop μ-loop
-returns c = search needs
+returns c = sorting-done _ _ _ _ _ _ _ _ _ _ _ _ _ (c .before .loop .inv) (c .loop-test .left)
 
 pub copy-rows-spec : {M : Type 1} → statement M
 copy-rows-spec =

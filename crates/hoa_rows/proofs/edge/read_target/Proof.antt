@@ -24,14 +24,14 @@ returns c =
     let at-value = c .before .before .before in
     let a = at-value .before .before .before .before .args in
     let i = at-value .before .before .read-int in
-    target-above (a .states) (now (a .text)) (a .at) (at-value .value .given .1) (i .ensures) (sym (c .before .not-below .ensures) ∙ c .if1 .taken))
+    target-above (a .states) (now (a .text)) (a .at) (at-value .value .given .1) (i .ensures) (sym (c .before .not-below .ensures) ∙ c .if1 .taken)
 
 returns-2 : tie.Need-returns-2
 returns-2 c =
     let at-value = c .before .before .before .before in
     let a = at-value .before .before .before .before .args in
     let i = at-value .before .before .read-int in
-    target-large (a .states) (now (a .text)) (a .at) (at-value .value .given .1) (i .ensures) (sym (c .before .before .not-below .ensures) ∙ c .before .if1 .left)) (c .if2 .taken)
+    target-large (a .states) (now (a .text)) (a .at) (at-value .value .given .1) (i .ensures) (sym (c .before .before .not-below .ensures) ∙ c .before .if1 .left) (c .if2 .taken)
 
 returns-3 : tie.Need-returns-3
 returns-3 c =
@@ -43,7 +43,7 @@ returns-4 c =
     let at-value = c .before .before .before .before in
     let a = at-value .before .before .before .before .args in
     let i = at-value .before .before .read-int in
-    target-there (a .states) (now (a .text)) (a .at) (at-value .value .given .1) (i .ensures) (sym (c .before .before .not-below .ensures) ∙ c .before .if1 .left)) (c .if2 .left)
+    target-there (a .states) (now (a .text)) (a .at) (at-value .value .given .1) (i .ensures) (sym (c .before .before .not-below .ensures) ∙ c .before .if1 .left) (c .if2 .left)
 
 pub read-target-spec : {M : Type 1} → statement M
 read-target-spec =

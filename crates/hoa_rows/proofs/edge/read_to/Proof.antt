@@ -1,47 +1,43 @@
+-- `edge::read_to` meets its contract: the target and the sig, one after the other. Assumes nothing.
+use denote.Ref.{now}
+use Rattle.hoa_rows.proofs.Reading.{to-refused, to-sig-refused, to-there}
 use borrow.Author.Needs.{needs}
 use native.Mathlib.Omega.{arith}
 use Rattle.hoa_rows.proofs.edge.read_to.Statement.{statement}
 use Rattle.hoa_rows.proofs.edge.read_to.Tie as tie
-use Rattle.hoa_rows.proofs.edge.read_to.Reads as reads
-use Rattle.hoa_rows.proofs.edge.read_to.Lts as lts
-use Rattle.hoa_rows.proofs.edge.read_edge_sig.Reads as read-edge-sig-reads
-use Rattle.hoa_rows.proofs.edge.read_target.Reads as read-target-reads
 
--- src/edge.rt:81:11
 read-target-requires : tie.Need-read-target-requires
 read-target-requires c κs = search needs
 
--- src/edge.rt:82:31
 enum-known-number : tie.Need-enum-known-number
 enum-known-number c = search needs
 
--- src/edge.rt:83:30
 enum-known-to : tie.Need-enum-known-to
 enum-known-to c = search needs
 
--- src/edge.rt:83:50
 read-edge-sig-requires : tie.Need-read-edge-sig-requires
 read-edge-sig-requires c κs = search needs
 
--- src/edge.rt:84:32
 enum-known-number-2 : tie.Need-enum-known-number-2
 enum-known-number-2 c = search needs
 
--- src/edge.rt:85:30
 enum-known-marks : tie.Need-enum-known-marks
 enum-known-marks c = search needs
 
--- src/edge.rt:77:1
 returns : tie.Need-returns
-returns c = search needs
+returns c =
+    let a = c .before .before .before .before .before .args in
+    to-refused (a .limits) (now (a .text)) (a .at) (a .before) (a .set) (c .before .number .given .1) (c .before .before .before .read-target .ensures)
 
--- src/edge.rt:77:1
 returns-2 : tie.Need-returns-2
-returns-2 c = search needs
+returns-2 c =
+    let a = c .before .before .before .before .before .before .before .before .before .args in
+    to-sig-refused (a .limits) (now (a .text)) (a .at) (a .before) (a .set) (c .before .before .before .before .before .to .given .1) (c .before .before .before .before .before .before .before .read-target .ensures) (c .before .number2 .given .1) (c .before .before .before .read-edge-sig .ensures)
 
--- src/edge.rt:77:1
 returns-3 : tie.Need-returns-3
-returns-3 c = search needs
+returns-3 c =
+    let a = c .before .before .before .before .before .before .before .before .before .args in
+    to-there (a .limits) (now (a .text)) (a .at) (a .before) (a .set) (c .before .before .before .before .before .to .given .1) (c .before .before .before .before .before .before .before .read-target .ensures) (c .before .marks .given .1) (c .before .before .before .read-edge-sig .ensures)
 
 pub read-to-spec : {M : Type 1} → statement M
 read-to-spec =

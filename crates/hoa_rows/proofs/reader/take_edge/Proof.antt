@@ -1,35 +1,37 @@
+-- `reader::take_edge` meets its contract: an edge that is read is kept, if a valuation satisfies its label (`edge-turned`). Assumes nothing.
+use denote.Ref.{now}
+use Rattle.hoa_rows.proofs.Turning.{edge-turned-wrong, edge-room, edge-turned}
 use borrow.Author.Needs.{needs}
 use native.Mathlib.Omega.{arith}
 use Rattle.hoa_rows.proofs.reader.take_edge.Statement.{statement}
 use Rattle.hoa_rows.proofs.reader.take_edge.Tie as tie
-use Rattle.hoa_rows.proofs.reader.take_edge.Reads as reads
-use Rattle.hoa_rows.proofs.reader.take_edge.Lts as lts
-use Rattle.hoa_rows.proofs.edge.read_edge.Reads as read-edge-reads
-use Rattle.hoa_rows.proofs.held.keep_edge.Reads as keep-edge-reads
 
--- src/reader.rt:171:11
 read-edge-requires : tie.Need-read-edge-requires
 read-edge-requires c κs = search needs
 
--- src/reader.rt:172:29
 enum-known-number : tie.Need-enum-known-number
 enum-known-number c = search needs
 
--- src/reader.rt:174:13
 enum-known-set : tie.Need-enum-known-set
 enum-known-set c = search needs
 
--- src/reader.rt:179:19
 keep-edge-requires : tie.Need-keep-edge-requires
-keep-edge-requires c κs = search needs
+keep-edge-requires c κs =
+    let at-entry = c .before .before .before .before .before .before .before .before in
+    let a = at-entry .args in
+    edge-room (a .limits) (now (a .text)) (a .at) (a .rows) (at-entry .pre) (c .before .before .before .before .set .given .1) (c .before .before .before .before .before .before .read-edge .ensures)
 
--- src/reader.rt:159:1
 returns : tie.Need-returns
-returns c = search needs
+returns c =
+    let at-entry = c .before .before .before .before .before in
+    let a = at-entry .args in
+    edge-turned-wrong (a .limits) (now (a .text)) (a .at) (a .rows) (at-entry .pre) (now (a .tos)) (now (a .sets)) (now (a .ends)) (c .before .number .given .1) (c .before .before .before .read-edge .ensures)
 
--- src/reader.rt:159:1
 returns-2 : tie.Need-returns-2
-returns-2 c = search needs
+returns-2 c =
+    let at-entry = c .before .before .before .before .before .before .before .before .before in
+    let a = at-entry .args in
+    edge-turned (a .limits) (now (a .text)) (a .at) (a .rows) (at-entry .pre) (now (a .tos)) (now (a .sets)) (now (a .ends)) _ _ _ _ (c .before .before .before .before .before .set .given .1) (c .before .before .before .before .before .before .before .read-edge .ensures) (c .keep-edge .ensures)
 
 pub take-edge-spec : {M : Type 1} → statement M
 take-edge-spec =

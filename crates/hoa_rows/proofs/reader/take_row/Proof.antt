@@ -1,35 +1,37 @@
+-- `reader::take_row` meets its contract: a row that is read begins (`row-turned`). Assumes nothing.
+use denote.Ref.{now}
+use Rattle.hoa_rows.proofs.Turning.{row-turned-wrong, row-room, row-turned}
 use borrow.Author.Needs.{needs}
 use native.Mathlib.Omega.{arith}
 use Rattle.hoa_rows.proofs.reader.take_row.Statement.{statement}
 use Rattle.hoa_rows.proofs.reader.take_row.Tie as tie
-use Rattle.hoa_rows.proofs.reader.take_row.Reads as reads
-use Rattle.hoa_rows.proofs.reader.take_row.Lts as lts
-use Rattle.hoa_rows.proofs.held.begin_row.Reads as begin-row-reads
-use Rattle.hoa_rows.proofs.row.read_row.Reads as read-row-reads
 
--- src/reader.rt:149:11
 read-row-requires : tie.Need-read-row-requires
 read-row-requires c κs = search needs
 
--- src/reader.rt:150:28
 enum-known-number : tie.Need-enum-known-number
 enum-known-number c = search needs
 
--- src/reader.rt:151:24
 enum-known-number-2 : tie.Need-enum-known-number-2
 enum-known-number-2 c = search needs
 
--- src/reader.rt:152:19
 begin-row-requires : tie.Need-begin-row-requires
-begin-row-requires c κs = search needs
+begin-row-requires c κs =
+    let at-entry = c .before .before .before .before .before .before .before .before in
+    let a = at-entry .args in
+    row-room (a .limits) (now (a .text)) (a .at) (a .rows) (at-entry .pre) (omega (arith, at-entry .good .0 .1)) (c .before .before .before .number2 .given .1) (c .before .before .before .before .before .read-row .ensures)
 
--- src/reader.rt:138:1
 returns : tie.Need-returns
-returns c = search needs
+returns c =
+    let at-entry = c .before .before .before .before .before .before in
+    let a = at-entry .args in
+    row-turned-wrong (a .limits) (now (a .text)) (a .at) (a .rows) (at-entry .pre) (now (a .firsts)) (now (a .ends)) (c .before .number .given .1) (c .before .before .before .read-row .ensures)
 
--- src/reader.rt:138:1
 returns-2 : tie.Need-returns-2
-returns-2 c = search needs
+returns-2 c =
+    let at-entry = c .before .before .before .before .before .before .before .before .before in
+    let a = at-entry .args in
+    row-turned (a .limits) (now (a .text)) (a .at) (a .rows) (at-entry .pre) (now (a .firsts)) (now (a .ends)) _ _ _ (c .before .before .before .before .number2 .given .1) (c .before .before .before .before .before .before .read-row .ensures) (c .begin-row .ensures)
 
 pub take-row-spec : {M : Type 1} → statement M
 take-row-spec =

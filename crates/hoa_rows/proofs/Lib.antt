@@ -14,3 +14,5 @@ pub mod Reading
 pub mod Turning
 -- Worth: what rows that are read to their end keep is a table's worth
 pub mod Worth
+-- Handing: the edges that are read, in the lent tables
+pub mod Handing

@@ -1,11 +1,15 @@
-// The kept edges by states, into the lent tables. Relies on nothing.
+// The kept edges by states, into the lent tables. Relies on `held`.
+use crate::RowsRead;
+use crate::held::RowsSoFar;
 ghost use mathlib.Core.Path.{_≡_};
 ghost use Prim.Native.Nat.{_-_, _≤_};
 ghost use lib.ListN.{length};
-ghost use Rattle.hoa_rows.specs.inner.Copied.{Filled, CopyRoom, Copied, Fitting, RowsCopied};
+ghost use Rattle.hoa_rows.specs.inner.Copied.{Filled, CopyRoom, Copied, Fitting, RowsCopied, Handing, Handed};
+ghost use mathlib.Core.Bool.{_&&_};
+ghost use lib.Dec.{leb};
 
 // The cells from `first` up to `end` become a value.
-pub(crate) fn fill(cells: &mut [u32], first: usize, end: usize, value: u32)
+fn fill(cells: &mut [u32], first: usize, end: usize, value: u32)
     requires { ⌜ (first ≤ end) × (end ≤ length (now cells)) ⌝ }
     ensures { λ _. ⌜ Filled first end value (now (cells .entry)) (now (cells .exit)) ⌝ }
 {
@@ -41,7 +45,7 @@ fn index_of(first: usize) -> usize
 }
 
 // The edges of the states below `states`, state by state.
-pub(crate) fn copy_rows(
+fn copy_rows(
     states: usize,
     firsts: &[usize; 256],
     ends: &[usize; 256],
@@ -65,5 +69,53 @@ pub(crate) fn copy_rows(
         copy_part(marks, m, sets, first, end);
         m = next;
         q += 1;
+    }
+}
+
+// Whether tables of these lengths hold so many edges.
+fn enough(m: usize, from: usize, to: usize, marks: usize) -> bool
+    ensures { λ r. ⌜ r ≡ (leb m from && (leb m to && leb m marks)) ⌝ }
+{
+    if from < m {
+        return false;
+    }
+    if to < m {
+        return false;
+    }
+    m <= marks
+}
+
+// The kept edges by states in the lent tables, with zeros after them; or the refusal of tables that are too short, as they were.
+pub(crate) fn hand_over(
+    rows: RowsSoFar,
+    firsts: &[usize; 256],
+    ends: &[usize; 256],
+    tos: &[u32; 512],
+    sets: &[u32; 512],
+    from: &mut [u32],
+    to: &mut [u32],
+    marks: &mut [u32],
+) -> RowsRead
+    requires { ⌜ Handing rows (now firsts) (now ends) (now tos) (now sets) ⌝ }
+    ensures { λ r. ⌜ Handed rows (now (firsts .entry)) (now (ends .entry)) (now (tos .entry)) (now (sets .entry)) (now (from .entry)) (now (to .entry)) (now (marks .entry)) (now (from .exit)) (now (to .exit)) (now (marks .exit)) r ⌝ }
+{
+    let count = rows.count;
+    let kept = rows.kept;
+    let from_end = from.len();
+    let to_end = to.len();
+    let marks_end = marks.len();
+    if enough(kept, from_end, to_end, marks_end) {
+        copy_rows(count, firsts, ends, tos, sets, from, to, marks);
+        fill(from, kept, from_end, 0);
+        fill(to, kept, to_end, 0);
+        fill(marks, kept, marks_end, 0);
+        return RowsRead::Kept {
+            states: count as u32,
+            edges: kept as u32,
+        };
+    }
+    RowsRead::Refused {
+        number: 11,
+        place: 0,
     }
 }

@@ -9,8 +9,7 @@ mod row;
 mod sig;
 mod token;
 
-use crate::copied::copy_rows;
-use crate::copied::fill;
+use crate::copied::hand_over;
 use crate::held::Ending;
 use crate::reader::read_entries;
 use hoa_step::Given;
@@ -68,26 +67,6 @@ pub fn read_rows(
         &mut ends,
     ) {
         Ending::Refused { number, place } => RowsRead::Refused { number, place },
-        Ending::Done { rows } => {
-            let count = rows.count;
-            let kept = rows.kept;
-            if from.len() < kept || to.len() < kept || marks.len() < kept {
-                return RowsRead::Refused {
-                    number: 11,
-                    place: 0,
-                };
-            }
-            copy_rows(count, &firsts, &ends, &tos, &sets, from, to, marks);
-            let from_end = from.len();
-            fill(from, kept, from_end, 0);
-            let to_end = to.len();
-            fill(to, kept, to_end, 0);
-            let marks_end = marks.len();
-            fill(marks, kept, marks_end, 0);
-            RowsRead::Kept {
-                states: count as u32,
-                edges: kept as u32,
-            }
-        }
+        Ending::Done { rows } => hand_over(rows, &firsts, &ends, &tos, &sets, from, to, marks),
     }
 }

@@ -163,7 +163,7 @@ module _ (es : List Edge) (firsts ends : List ℕ) (d : Parted es firsts ends) w
       let f = firstOf firsts n in
       let g = endOf ends n in
       let h : between f g source ≡ map part (leaving n es) =
-          rw (e, between-padded mostJobEdges f g (map part es) (d .ordered n) (omega (arith, d .within n, length-map es part)), ← map-drop part f es, ← map-take part (g - f) (drop f es), d .parts n)
+      rw (e, between-padded mostJobEdges f g (map part es) (d .ordered n) (omega (arith, d .within n, length-map es part)), ← map-drop part f es, ← map-take part (g - f) (drop f es), d .parts n)
       in
       rw (map-append part (sorted n es) (leaving n es), parts-sorted part source e n, h)
 

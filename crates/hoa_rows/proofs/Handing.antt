@@ -37,13 +37,13 @@ leaving-out n e es q = rw (ne-eqb (e .from) n q)
 sorted-out : (n : ℕ) (e : Edge) (es : List Edge) → n ≤ e .from → length (sorted n (e ∷ es)) ≡ length (sorted n es)
 sorted-out zero e es l = refl
 sorted-out (suc n) e es l =
-    omega
-    (
-    arith,
-    length-append (sorted n (e ∷ es)) (leaving n (e ∷ es)),
-    length-append (sorted n es) (leaving n es),
-    sorted-out n e es (omega arith),
-    leaving-out n e es (λ (q : e .from ≡ n). omega arith))
+    omega (
+      arith,
+      length-append (sorted n (e ∷ es)) (leaving n (e ∷ es)),
+      length-append (sorted n es) (leaving n es),
+      sorted-out n e es (omega arith),
+      leaving-out n e es (λ (q : e .from ≡ n). omega arith),
+    )
 
 sorted-in : (n : ℕ) (e : Edge) (es : List Edge) → e .from < n → length (sorted n (e ∷ es)) ≡ suc (length (sorted n es))
 sorted-in zero e es l = absurd (omega arith)

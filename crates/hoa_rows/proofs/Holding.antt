@@ -144,7 +144,7 @@ module _ (s : RowsSoFar) (x to m : ℕ) (tos sets ends : List ℕ) (n : ℕ) whe
 
 pub edge-kept : (s : RowsSoFar) (x to m : ℕ) (tos sets ends : List ℕ) (n : ℕ) → (x ≡ 0 → ⊥) → n ≡ max (s .largest) to
     → EdgeKept s x to m tos sets ends (set tos (s .kept) to) (set sets (s .kept) m) (set ends (s .row) (s .kept + 1))
-      (record { count = s .count; row = s .row; sig = s .sig; kept = s .kept + 1; largest = n })
+    (record { count = s .count; row = s .row; sig = s .sig; kept = s .kept + 1; largest = n })
 edge-kept s zero to m tos sets ends n h q = absurd (h refl)
 edge-kept s (suc x) to m tos sets ends n h q = rw q (record { is = refl; targets = refl; unions = refl; stops = refl })
 
@@ -162,10 +162,10 @@ module _ (b : Rows) (s : RowsSoFar) (tos sets firsts ends : List ℕ) (h : Holds
       let g : getD (set ends i (s .kept + 1)) i 0 ≡ s .kept + 1 = getD-set-same ends i (s .kept + 1) 0 (omega (arith, h .states-end)) in
       let g' : (q : ℕ) → (q ≡ i → ⊥) → getD (set ends i (s .kept + 1)) q 0 ≡ getD ends q 0 = λ q n. getD-set-other ends i q (s .kept + 1) 0 n in
       let mine : leaving i (es ++ (e ∷ [])) ≡ leaving i es ++ (e ∷ []) =
-          leaving-append i es (e ∷ []) ∙ ap (λ (xs : List Edge). leaving i es ++ xs) (rw (eq-eqb (lastRow (b .seen)) i (sym (h .row))))
+      leaving-append i es (e ∷ []) ∙ ap (λ (xs : List Edge). leaving i es ++ xs) (rw (eq-eqb (lastRow (b .seen)) i (sym (h .row))))
       in
       let others : (q : ℕ) → (q ≡ i → ⊥) → leaving q (es ++ (e ∷ [])) ≡ leaving q es =
-          λ q n. leaving-append q es (e ∷ []) ∙ rw (ne-eqb (lastRow (b .seen)) q (λ t. n (sym t ∙ sym (h .row))), append-nil)
+      λ q n. leaving-append q es (e ∷ []) ∙ rw (ne-eqb (lastRow (b .seen)) q (λ t. n (sym t ∙ sym (h .row))), append-nil)
       in
       let marked : ltb 0 (getD firsts i 0) ≡ true = sym (h .listed .marked i l) ∙ rw (h .row) (there .0) in
       record {

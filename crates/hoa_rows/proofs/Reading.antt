@@ -236,9 +236,11 @@ module _ (text : List ℕ) (at : ℕ) (here : EntryAt) (h : EntryHere text at he
 
   pub number-label : (n : ℕ) → here .entry ≡ entry-is.Edge → LabelledAt text at n 41
   number-label n e = record { is = λ l b place f. step-faults (rowStep l) (rowNumber b) (f .is) 41 (number-on-label l b (f .token) (faulty-entry f ∙ e)) }
+
   pub number-missing : (n : ℕ) → OneOf notEdge (Declared.tagOf entry-type.the-type (here .entry)) → LabelledAt text at n n
   number-missing n o =
       record { is = λ l b place f. step-faults (rowStep l) (rowNumber b) (f .is) n (number-on-other l b (f .token) (here .entry) n o (faulty-entry f) (f .faulty)) }
+
 module _ (states : Given) (text : List ℕ) (at : ℕ) (firsts : List ℕ) where
   pub number-refused : {r : IntRead} {n p : ℕ} (x : ℕ) → r ≡ int-read.Refused n p → IntReads text at r → LabelledAt text at n x
       → NumberAt states text at firsts (number-read.Refused x p)
@@ -302,6 +304,7 @@ module _ (text : List ℕ) (at : ℕ) (here : EntryAt) (h : EntryHere text at he
         behind = omega (arith, k .onward .behind);
         within = λ m. k .onward .within;
       }
+
   pub name-stays : OneOf notText (Declared.tagOf entry-type.the-type (here .entry)) → NameAt text at at
   name-stays o =
       record {
@@ -309,6 +312,7 @@ module _ (text : List ℕ) (at : ℕ) (here : EntryAt) (h : EntryHere text at he
         behind = omega arith;
         within = λ m. m;
       }
+
   pub row-sig-stays : (c : ℕ) → OneOf notSig (Declared.tagOf entry-type.the-type (here .entry)) → RowSigAt text at c (sig-read.Marks 0 at)
   row-sig-stays c o =
       record {
@@ -318,6 +322,7 @@ module _ (text : List ℕ) (at : ℕ) (here : EntryAt) (h : EntryHere text at he
             ∙ ap (λ (n : ℕ). from l text at (entries (withSig n b))) z;
         onward = (omega arith, λ m. m);
       }
+
   pub row-sig-goes : (c : ℕ) (r : SigRead) → here .entry ≡ entry-is.Sig → SigAt text (here .next) c 0 r → RowSigAt text at c r
   row-sig-goes c r e d = record { is = λ l b m z. begun l b ∙ ended l b m r d; onward = stays r (d .onward) }
     where
@@ -346,6 +351,7 @@ module _ (text : List ℕ) (at : ℕ) (here : EntryAt) (h : EntryHere text at he
   pub more-joined : (c before : ℕ) → here .entry ≡ entry-is.Join → EdgeSigAt text at c before (sig-read.Refused 41 (here .place))
   more-joined c before e =
       record { is = λ l x to b m z. step-faults (rowStep l) (targetMore x to b) (h .is) 41 (more-on-join l b (h .token) x to (h .entry ∙ e)); onward = tt }
+
   pub more-stays : (c before : ℕ) → OneOf notMore (Declared.tagOf entry-type.the-type (here .entry)) → EdgeSigAt text at c before (sig-read.Marks before at)
   more-stays c before o =
       record {
@@ -355,6 +361,7 @@ module _ (text : List ℕ) (at : ℕ) (here : EntryAt) (h : EntryHere text at he
             ∙ ap (λ (n : ℕ). from l text at (entries (withEdge x to n b))) z;
         onward = (omega arith, λ m. m);
       }
+
   pub more-goes : (c before : ℕ) (r : SigRead) → here .entry ≡ entry-is.Sig → SigAt text (here .next) c before r → EdgeSigAt text at c before r
   more-goes c before r e d = record { is = λ l x to b m z. begun l x to b ∙ ended l x to b m z r d; onward = stays r (d .onward) }
     where
@@ -434,14 +441,14 @@ module _ (l : Limits) (text : List ℕ) (at : ℕ) (firsts : List ℕ) where
         let o = i .onward in
         record {
           is = λ b j. up-to-sig b j ∙ k .is l (withRow q b) refl refl;
-          onward =
-              (
-              record {
-                behind = omega (arith, o .0 .behind, d .behind, k .onward .0);
-                within = k .onward .1 (d .within (o .0 .within));
-              },
-              o .1,
-              o .2);
+          onward = (
+            record {
+              behind = omega (arith, o .0 .behind, d .behind, k .onward .0);
+              within = k .onward .1 (d .within (o .0 .within));
+            },
+            o .1,
+            o .2,
+          );
         }
 
 module _ (l : Limits) (text : List ℕ) (at before x : ℕ) where

@@ -116,10 +116,10 @@ unless-takes bad ps h = h
 some-take : (k : ℕ) (text : List ℕ) (at : ℕ) → AllTake (upTo k text at)
 unfolding upTo
 some-take zero text at = tt
-some-take (suc k) text at =
-    (
-    first-takes at (drop at text),
-    unless-takes (first at (drop at text) .token) (upTo k text (first at (drop at text) .next)) (some-take k text (first at (drop at text) .next)))
+some-take (suc k) text at = (
+  first-takes at (drop at text),
+  unless-takes (first at (drop at text) .token) (upTo k text (first at (drop at text) .next)) (some-take k text (first at (drop at text) .next)),
+)
 
 pub signs-take : (text : List ℕ) (at : ℕ) → AllTake (tokensAt text at)
 unfolding tokensAt

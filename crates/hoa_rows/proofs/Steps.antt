@@ -49,7 +49,7 @@ moved text at f h n =
       is =
           tokens-next text at f h
           ∙ ap (λ (ps : List Placed). placed (f .first) (f .next) (tokenOf text (f .first) (f .next) (f .kind)) ∷ ps)
-            (unless text (f .first) (f .next) (f .kind) (tokensAt text (f .next)) n);
+          (unless text (f .first) (f .next) (f .kind) (tokensAt text (f .next)) n);
       behind-at = m .behind-at;
       takes = m .takes;
       within = m .within;
@@ -155,7 +155,7 @@ module _ (l : Limits) (b : Rows) where
           → ((s' : LabelState) → run (rowStep l) ps (inLabel s' b) ≡ labelGives ps s')
           → endBy (onLabel b t) (p .place) ps (λ u. run (rowStep l) ps u)
           ≡ afterLabel l b (label.endBy t (p .place) ps (λ u. labelRun (l .props) u ps))
-            (label.nextBy t (p .next) (λ u. labelNext (l .props) u ps) - 1)
+          (label.nextBy t (p .next) (λ u. labelNext (l .props) u ps) - 1)
       by (label.go s') place later = later s'
       by (label.shut x) place later = ap (λ (n : ℕ). endBy (shutLabel x b) n ps (λ u. run (rowStep l) ps u)) (place refl)
       by (label.wrong n) place later = refl

@@ -243,8 +243,8 @@ module _ (l : Limits) (text : List ℕ) (at : ℕ) (here : EntryAt) (h : EntryHe
         is =
             λ b d.
             let i : from l text at (entries b) ≡ from l text (here .next) (rowNumber b) =
-                step-goes (rowStep l) (entries b) (h .is) (rowNumber b) (begins b tos sets firsts ends d ∙ ap (admittedStep b) e)
-                ∙ ap (λ (ps : List Placed). run (rowStep l) ps (rowNumber b)) (k .is)
+            step-goes (rowStep l) (entries b) (h .is) (rowNumber b) (begins b tos sets firsts ends d ∙ ap (admittedStep b) e)
+            ∙ ap (λ (ps : List Placed). run (rowStep l) ps (rowNumber b)) (k .is)
             in
             rw i (g .is b tos sets d);
         room = room-later text at (here .next) (k .onward .behind) r (g .room);
@@ -258,8 +258,8 @@ module _ (l : Limits) (text : List ℕ) (at : ℕ) (here : EntryAt) (h : EntryHe
         is =
             λ b d.
             let i : from l text at (entries b) ≡ from l text (here .next) (inLabel labelBegin b) =
-                step-goes (rowStep l) (entries b) (h .is) (inLabel labelBegin b) (begins b tos sets firsts ends d ∙ ap (admittedStep b) e)
-                ∙ ap (λ (ps : List Placed). run (rowStep l) ps (inLabel labelBegin b)) (k .is)
+            step-goes (rowStep l) (entries b) (h .is) (inLabel labelBegin b) (begins b tos sets firsts ends d ∙ ap (admittedStep b) e)
+            ∙ ap (λ (ps : List Placed). run (rowStep l) ps (inLabel labelBegin b)) (k .is)
             in
             rw i (g .is b firsts (edge-some (l .states) s (here .entry) (sym a ∙ e)) d);
         room = room-later text at (here .next) (k .onward .behind) r (g .room);

@@ -122,27 +122,27 @@ came-each P q seen p h x e = byTest (eqb x q) (λ t. rw (eqb-true x q t) p) (λ 
 
 all-more : (l : Limits) (q : ℕ) (seen : List ℕ) (m n : ℕ) (es : List Edge) → m ≤ n → AllGood l seen m es → AllGood l (q ∷ seen) n es
 all-more l q seen m n [] o h = tt
-all-more l q seen m n (e ∷ es) o h =
-    (
-    record {
-      from-seen = came-more (e .from) q seen (h .0 .from-seen);
-      to-below = h .0 .to-below;
-      to-least = omega (arith, h .0 .to-least);
-      few-marks = h .0 .few-marks;
-    },
-    all-more l q seen m n es o (h .1))
+all-more l q seen m n (e ∷ es) o h = (
+  record {
+    from-seen = came-more (e .from) q seen (h .0 .from-seen);
+    to-below = h .0 .to-below;
+    to-least = omega (arith, h .0 .to-least);
+    few-marks = h .0 .few-marks;
+  },
+  all-more l q seen m n es o (h .1),
+)
 
 all-larger : (l : Limits) (seen : List ℕ) (m n : ℕ) (es : List Edge) → m ≤ n → AllGood l seen m es → AllGood l seen n es
 all-larger l seen m n [] o h = tt
-all-larger l seen m n (e ∷ es) o h =
-    (
-    record {
-      from-seen = h .0 .from-seen;
-      to-below = h .0 .to-below;
-      to-least = omega (arith, h .0 .to-least);
-      few-marks = h .0 .few-marks;
-    },
-    all-larger l seen m n es o (h .1))
+all-larger l seen m n (e ∷ es) o h = (
+  record {
+    from-seen = h .0 .from-seen;
+    to-below = h .0 .to-below;
+    to-least = omega (arith, h .0 .to-least);
+    few-marks = h .0 .few-marks;
+  },
+  all-larger l seen m n es o (h .1),
+)
 
 all-append : (l : Limits) (seen : List ℕ) (m : ℕ) (es fs : List Edge) → AllGood l seen m es → AllGood l seen m fs → AllGood l seen m (es ++ fs)
 all-append l seen m [] fs h k = k
@@ -372,14 +372,14 @@ agrees-good (Value n) start b w f o = omega (arith, ltb-false (length (b .seen))
 module _ (l : Limits) (b : Rows) (g : Good l b) (w : wrongEnd (l .states) b ≡ false) where
   edges-fit : (es : List Edge) → AllGood l (b .seen) (b .largest) es → AllFit (length (b .seen)) (l .marks) es
   edges-fit [] h = tt
-  edges-fit (e ∷ es) h =
-      (
-      record {
-        leaves = below-states (l .states) b (e .from) w (g .few) (g .below (e .from) (h .0 .from-seen)) (g .least (e .from) (h .0 .from-seen));
-        arrives = below-states (l .states) b (e .to) w (g .few) (h .0 .to-below) (h .0 .to-least);
-        bears = h .0 .few-marks;
-      },
-      edges-fit es (h .1))
+  edges-fit (e ∷ es) h = (
+    record {
+      leaves = below-states (l .states) b (e .from) w (g .few) (g .below (e .from) (h .0 .from-seen)) (g .least (e .from) (h .0 .from-seen));
+      arrives = below-states (l .states) b (e .to) w (g .few) (h .0 .to-below) (h .0 .to-least);
+      bears = h .0 .few-marks;
+    },
+    edges-fit es (h .1),
+  )
 
   closed-worth : Worth l (record { states = length (b .seen); edges = b .edges })
   closed-worth =

@@ -1,47 +1,53 @@
+-- `read_rows` meets its contract: the rows' refusal, or what is handed over of them (`rows-handed`). Assumes nothing.
+use mathlib.Core.Path.{refl, subst}
+use denote.Ref.{now}
+use Rattle.hoa_rows.specs.Lent.{rowsEnd}
+use Rattle.hoa_rows.specs.inner.Turns.{Ended}
+use Rattle.hoa_rows.proofs.Handing.{handing, rows-refused, rows-handed}
 use native.Mathlib.Omega.{arith}
 use borrow.Author.Needs.{needs}
 use Rattle.hoa_rows.proofs.read_rows.Statement.{statement}
 use Rattle.hoa_rows.proofs.read_rows.Tie as tie
-use Rattle.hoa_rows.proofs.read_rows.Reads as reads
-use Rattle.hoa_rows.proofs.read_rows.Lts as lts
-use Rattle.hoa_rows.proofs.copied.hand_over.Reads as hand-over-reads
-use Rattle.hoa_rows.proofs.reader.read_entries.Reads as read-entries-reads
 
--- src/lib.rt:60:11
 read-entries-requires : tie.Need-read-entries-requires
-read-entries-requires c κs = search needs
+read-entries-requires c κs = record { targets = refl; unions = refl; starts = refl; stops = refl }
 
--- src/lib.rt:69:27
 enum-known-number : tie.Need-enum-known-number
 enum-known-number c = search needs
 
--- src/lib.rt:70:24
 enum-known-rows : tie.Need-enum-known-rows
 enum-known-rows c = search needs
 
--- src/lib.rt:70:34
 hand-over-requires : tie.Need-hand-over-requires
-hand-over-requires c κs = search needs
+hand-over-requires c κs =
+    let a = c .before .before .before .before .before .before .before .before .before .before .before .before .before .before .before .before .before .before .before .args in
+    let read = c .before .before .before .before .before .before .before .before .before .before .read-entries in
+    let told = subst (Ended (rowsEnd (a .limits) (now (a .text)) (a .at)) (read .last .1 .1 .1 .0) (read .last .1 .1 .1 .1 .0) (read .last .1 .1 .1 .1 .1 .0) (read .last .1 .1 .1 .1 .1 .1 .0)) (c .before .before .before .before .before .before .before .before .rows .given .1) (read .ensures) in
+    handing (a .limits) (now (a .text)) (a .at) _ _ _ _ _ told
 
--- src/lib.rt:46:1
 returns : tie.Need-returns
-returns c = search needs
+returns c =
+    let a = c .before .before .before .before .before .before .before .before .before .before .before .before .args in
+    let read = c .before .before .before .read-entries in
+    let told = subst (Ended (rowsEnd (a .limits) (now (a .text)) (a .at)) (read .last .1 .1 .1 .0) (read .last .1 .1 .1 .1 .0) (read .last .1 .1 .1 .1 .1 .0) (read .last .1 .1 .1 .1 .1 .1 .0)) (c .before .number .given .1) (read .ensures) in
+    rows-refused (a .limits) (now (a .text)) (a .at) (now (a .from)) (now (a .to)) (now (a .marks)) _ _ told
 
--- src/lib.rt:46:1
 same-length : tie.Need-same-length
 same-length c = search needs
 
--- src/lib.rt:46:1
 same-length-2 : tie.Need-same-length-2
 same-length-2 c = search needs
 
--- src/lib.rt:46:1
 same-length-3 : tie.Need-same-length-3
 same-length-3 c = search needs
 
--- src/lib.rt:46:1
 returns-2 : tie.Need-returns-2
-returns-2 c = search needs
+returns-2 c =
+    let a = c .before .before .before .before .before .before .before .before .before .before .before .before .before .before .before .before .before .before .before .before .before .before .before .before .before .before .args in
+    let read = c .before .before .before .before .before .before .before .before .before .before .before .before .before .before .before .before .before .read-entries in
+    let over = c .before .before .before .before .before .before .hand-over in
+    let told = subst (Ended (rowsEnd (a .limits) (now (a .text)) (a .at)) (read .last .1 .1 .1 .0) (read .last .1 .1 .1 .1 .0) (read .last .1 .1 .1 .1 .1 .0) (read .last .1 .1 .1 .1 .1 .1 .0)) (c .before .before .before .before .before .before .before .before .before .before .before .before .before .before .before .rows .given .1) (read .ensures) in
+    rows-handed (a .limits) (now (a .text)) (a .at) _ _ _ _ _ told (now (a .from)) (now (a .to)) (now (a .marks)) _ _ _ (over .result) (over .ensures)
 
 pub read-rows-spec : {M : Type 1} → statement M
 read-rows-spec =

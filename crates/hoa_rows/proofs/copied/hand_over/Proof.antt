@@ -1,60 +1,70 @@
+-- `copied::hand_over` meets its contract: tables that are long enough hold the edges by states and zeros after them (`handed-all`). Assumes nothing.
+use mathlib.Core.Path.{sym, _∙_}
+use denote.Ref.{now}
+use Rattle.hoa_rows.proofs.Handing.{long, fitting, handed-short, handed-all}
 use native.Mathlib.Omega.{arith}
 use borrow.Author.Needs.{needs}
 use Rattle.hoa_rows.proofs.copied.hand_over.Statement.{statement}
 use Rattle.hoa_rows.proofs.copied.hand_over.Tie as tie
-use Rattle.hoa_rows.proofs.copied.hand_over.Reads as reads
-use Rattle.hoa_rows.proofs.copied.hand_over.Lts as lts
-use Rattle.hoa_rows.proofs.copied.copy_rows.Reads as copy-rows-reads
-use Rattle.hoa_rows.proofs.copied.enough.Reads as enough-reads
-use Rattle.hoa_rows.proofs.copied.fill.Reads as fill-reads
 
--- src/copied.rt:107:8
 enough-requires : tie.Need-enough-requires
 enough-requires c κs = search needs
 
--- src/copied.rt:108:9
 copy-rows-requires : tie.Need-copy-rows-requires
-copy-rows-requires c κs = search needs
+copy-rows-requires c κs =
+    let at-entry = c .before .before .before .before .before .before .before .before in
+    let a = at-entry .args in
+    fitting (a .rows) (now (a .firsts)) (now (a .ends)) (now (a .tos)) (now (a .sets)) (now (a .from)) (now (a .to)) (now (a .marks)) (at-entry .pre) (sym (c .before .before .before .before .enough .ensures) ∙ c .before .before .before .if1 .taken)
 
--- src/copied.rt:109:9
 fill-requires : tie.Need-fill-requires
-fill-requires c κs = search needs
+fill-requires c κs =
+    let at-entry = c .before .before .before .before .before .before .before .before .before .before .before .before .before .before .before .before in
+    let a = at-entry .args in
+    let g = long (a .rows .kept) (now (a .from)) (now (a .to)) (now (a .marks)) (sym (c .before .before .before .before .before .before .before .before .before .before .before .before .enough .ensures) ∙ c .before .before .before .before .before .before .before .before .before .before .before .if1 .taken) in
+    (g .from-room, omega (arith, c .before .before .before .before .before .before .before .copy-rows .kept .1 .1 .1 .1 .1 .0))
 
--- src/copied.rt:110:9
 fill-requires-2 : tie.Need-fill-requires-2
-fill-requires-2 c κs = search needs
+fill-requires-2 c κs =
+    let at-entry = c .before .before .before .before .before .before .before .before .before .before .before .before .before .before .before .before .before .before .before .before in
+    let a = at-entry .args in
+    let g = long (a .rows .kept) (now (a .from)) (now (a .to)) (now (a .marks)) (sym (c .before .before .before .before .before .before .before .before .before .before .before .before .before .before .before .before .enough .ensures) ∙ c .before .before .before .before .before .before .before .before .before .before .before .before .before .before .before .if1 .taken) in
+    (g .to-room, omega (arith, c .before .before .before .before .before .before .before .before .before .before .before .copy-rows .kept .1 .1 .1 .1 .1 .1 .0))
 
--- src/copied.rt:111:9
 fill-requires-3 : tie.Need-fill-requires-3
-fill-requires-3 c κs = search needs
+fill-requires-3 c κs =
+    let at-entry = c .before .before .before .before .before .before .before .before .before .before .before .before .before .before .before .before .before .before .before .before .before .before .before .before in
+    let a = at-entry .args in
+    let g = long (a .rows .kept) (now (a .from)) (now (a .to)) (now (a .marks)) (sym (c .before .before .before .before .before .before .before .before .before .before .before .before .before .before .before .before .before .before .before .before .enough .ensures) ∙ c .before .before .before .before .before .before .before .before .before .before .before .before .before .before .before .before .before .before .before .if1 .taken) in
+    (g .marks-room, omega (arith, c .before .before .before .before .before .before .before .before .before .before .before .before .before .before .before .copy-rows .kept .1 .1 .1 .1 .1 .1 .1 .0))
 
--- src/copied.rt:113:21
 cast-t28 : tie.Need-cast-t28
 cast-t28 c = search needs
 
--- src/copied.rt:114:20
 cast-t29 : tie.Need-cast-t29
 cast-t29 c = search needs
 
--- src/copied.rt:112:9
 same-length : tie.Need-same-length
 same-length c = search needs
 
--- src/copied.rt:112:9
 same-length-2 : tie.Need-same-length-2
 same-length-2 c = search needs
 
--- src/copied.rt:112:9
 same-length-3 : tie.Need-same-length-3
 same-length-3 c = search needs
 
--- src/copied.rt:112:9
 returns : tie.Need-returns
-returns c = search needs
+returns c =
+    let at-entry = c .before .before .before .before .before .before .before .before .before .before .before .before .before .before .before .before .before .before .before .before .before .before .before .before .before .before .before in
+    let a = at-entry .args in
+    let copied = c .before .before .before .before .before .before .before .before .before .before .before .before .before .before .before .before .before .before .copy-rows in
+    handed-all (a .rows) (now (a .firsts)) (now (a .ends)) (now (a .tos)) (now (a .sets)) (now (a .from)) (now (a .to)) (now (a .marks)) (at-entry .pre) (sym (c .before .before .before .before .before .before .before .before .before .before .before .before .before .before .before .before .before .before .before .before .before .before .before .enough .ensures) ∙ c .before .before .before .before .before .before .before .before .before .before .before .before .before .before .before .before .before .before .before .before .before .before .if1 .taken) _ _ _ _ _ _
+    (copied .ensures) (copied .kept .1 .1 .1 .1 .1 .0) (copied .kept .1 .1 .1 .1 .1 .1 .0) (copied .kept .1 .1 .1 .1 .1 .1 .1 .0)
+    (c .before .before .before .before .before .before .before .before .before .before .fill .ensures) (c .before .before .before .before .before .before .fill2 .ensures) (c .before .before .fill3 .ensures) (c .before .before .before .before .before .before .before .before .before .before .fill .kept .0) (c .before .before .before .before .before .before .fill2 .kept .0) (c .before .before .fill3 .kept .0)
 
--- src/copied.rt:89:1
 returns-2 : tie.Need-returns-2
-returns-2 c = search needs
+returns-2 c =
+    let a = c .before .before .before .before .before .args in
+    handed-short (a .rows) (now (a .firsts)) (now (a .ends)) (now (a .tos)) (now (a .sets)) (now (a .from)) (now (a .to)) (now (a .marks)) (sym (c .before .enough .ensures) ∙ c .if1 .left)
 
 pub hand-over-spec : {M : Type 1} → statement M
 hand-over-spec =

@@ -16,3 +16,5 @@ pub mod Turning
 pub mod Worth
 -- Handing: the edges that are read, in the lent tables
 pub mod Handing
+-- Promises: one result, never cut, and what is handed over is a table's worth
+pub mod Promises

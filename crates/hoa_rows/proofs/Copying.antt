@@ -131,7 +131,10 @@ map-drop part (suc n) (e ∷ es) = map-drop part n es
 -- the zeros behind the edges do not matter
 pub between-padded : (n first end : ℕ) (xs : List ℕ) → first ≤ end → end ≤ length xs → between first end (padTo n xs) ≡ between first end xs
 between-padded n first end xs f l =
-    rw (drop-append-le first xs (replicate (n - length xs) 0) (omega arith), take-append-le (end - first) (drop first xs) (replicate (n - length xs) 0) (omega (arith, length-drop first xs)))
+    rw (
+      drop-append-le first xs (replicate (n - length xs) 0) (omega arith),
+      take-append-le (end - first) (drop first xs) (replicate (n - length xs) 0) (omega (arith, length-drop first xs)),
+    )
 
 -- ---- the tables
 
@@ -163,7 +166,13 @@ module _ (es : List Edge) (firsts ends : List ℕ) (d : Parted es firsts ends) w
       let f = firstOf firsts n in
       let g = endOf ends n in
       let h : between f g source ≡ map part (leaving n es) =
-      rw (e, between-padded mostJobEdges f g (map part es) (d .ordered n) (omega (arith, d .within n, length-map es part)), ← map-drop part f es, ← map-take part (g - f) (drop f es), d .parts n)
+      rw (
+        e,
+        between-padded mostJobEdges f g (map part es) (d .ordered n) (omega (arith, d .within n, length-map es part)),
+        ← map-drop part f es,
+        ← map-take part (g - f) (drop f es),
+        d .parts n,
+      )
       in
       rw (map-append part (sorted n es) (leaving n es), parts-sorted part source e n, h)
 

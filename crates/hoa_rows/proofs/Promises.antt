@@ -1,6 +1,6 @@
 -- What the promise comes to: two results that it allows are equal (`unique`), the rows of a text are never cut (`never-cut`), and what is handed over is
 -- sorted and a table's worth (`table`). Assumes nothing.
-use mathlib.Core.Path.{_≡_, refl, sym, ap, _∙_}
+use mathlib.Core.Path.{_≡_, refl, sym, ap, subst, _∙_}
 use mathlib.Core.Bool.{Bool, true, false, false≢true, cond}
 use mathlib.Core.List.{List, [], _∷_, _++_}
 use Prim.Native.Nat.{ℕ, zero, suc, _+_, _-_, _≤_, _<_}
@@ -114,7 +114,7 @@ some-ends (suc k) text at l = by (first at (drop at text)) (stands at (drop at t
   where
     by : (p : Placed) → Stands at (length (drop at text)) p → ((next : ℕ) → length text - next < k → Ends (upTo k text next))
         → Ends (p ∷ unlessFinished (p .token) (upTo k text (p .next)))
-    by p (over e a b) later = rw e (last e)
+    by p (over e a b) later = subst (λ (t : Token). Ends (p ∷ unlessFinished t (upTo k text (p .next)))) (sym e) (last e)
     by p (there e a b c) later = unless-ends p (upTo k text (p .next)) (later (p .next) (omega (arith, length-drop at text)))
 
 -- the rows of a text are never cut

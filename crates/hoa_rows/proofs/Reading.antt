@@ -78,7 +78,8 @@ pub record SigGoes (text : List ℕ) (at c before place next marks : ℕ) : Type
   pub so-far : SigSoFar text at c before next marks
   pub onward : Onward text place next
 
-module _ (text : List ℕ) (at c before place marks : ℕ) (h : SigSoFar text at c before place marks) (f : Found) (t : TokenAt text place f) (r : SigTurn) (d : SigTells c marks (f .kind) r) where
+module _ (text : List ℕ) (at c before place marks : ℕ) (h : SigSoFar text at c before place marks)
+    (f : Found) (t : TokenAt text place f) (r : SigTurn) (d : SigTells c marks (f .kind) r) where
   pub sig-goes : (m : ℕ) → r ≡ sig-turn.Go m → SigGoes text at c before place (f .next) m
   sig-goes m e =
       let s : sigStep c marks (tokenOf text (f .first) (f .next) (f .kind)) ≡ go m = sym (d text (f .first) (f .next)) ∙ rw e in

@@ -21,7 +21,8 @@ use Rattle.hoa_rows.specs.declared.Entry.{Entry}
 use Rattle.hoa_rows.specs.declared.Entry.the-variants as entry-is
 use Rattle.hoa_rows.specs.Sig.{sigStep}
 use Rattle.hoa_rows.specs.Rows as spec
-use Rattle.hoa_rows.specs.Rows.{Rows, RowState, RowStep, entries, rowMarks, edgeMarks, inLabel, withSig, withEdge, onRowMarks, onEdgeMarks, onLabel, shutLabel, entryOf, rowStep}
+use Rattle.hoa_rows.specs.Rows.{Rows, RowState, RowStep, entries, rowMarks, edgeMarks, inLabel}
+use Rattle.hoa_rows.specs.Rows.{withSig, withEdge, onRowMarks, onEdgeMarks, onLabel, shutLabel, entryOf, rowStep}
 use Rattle.hoa_rows.specs.inner.Reads.{Onward, Behind, EntryHere, isFault}
 use Rattle.hoa_rows.proofs.Signs.{AllTake, isShut, shut-sign}
 

@@ -36,7 +36,8 @@ use Rattle.hoa_rows.specs.declared.reader.Admitted.the-variants as admit
 use Rattle.hoa_rows.specs.declared.reader.Turn.{Turn}
 use Rattle.hoa_rows.specs.declared.reader.Turn.the-variants as turn-is
 use Rattle.hoa_rows.specs.Rows as spec
-use Rattle.hoa_rows.specs.Rows.{Rows, RowStep, noRows, entries, rowNumber, inLabel, closing, withRow, withSig, withEdge, behindRow, onEntry, closingHeader, onClosing, entryOf, rowStep}
+use Rattle.hoa_rows.specs.Rows.{Rows, RowStep, noRows, entries, rowNumber, inLabel, closing, withRow}
+use Rattle.hoa_rows.specs.Rows.{withSig, withEdge, behindRow, onEntry, closingHeader, onClosing, entryOf, rowStep}
 use Rattle.hoa_rows.specs.Lent.{rowsEnd}
 use Rattle.hoa_rows.specs.inner.Reads.{from, Onward, EntryHere, Behind, isFault, RowAt, EdgeAt}
 use Rattle.hoa_rows.specs.inner.Held.{Holds, Room, Blank, RowRoom, Begun, EdgeRoom, rowsWith, EdgeKept}
@@ -204,9 +205,15 @@ no-fault g s entry-is.Join h = refl
 
 edge-some : (g : Given) (s : RowsSoFar) (e : Entry) → admittedOf g s e ≡ admitted-is.Edge → s .count ≡ 0 → ⊥
 edge-some g s entry-is.Edge h z = let t : isWrong (admittedOf g s entry-is.Edge) ≡ true = rw z in false≢true (sym (ap isWrong h) ∙ t)
-edge-some g s entry-is.Row h z = byTest (notBelow (s .count) g) (λ t. let y : _≡_ {A = ℕ} 0 1 = cc (rw t at h) in omega arith) (λ t. let y : _≡_ {A = ℕ} 0 1 = cc (rw t at h) in omega arith)
-edge-some g s entry-is.Bare h z = byTest (eqb (s .count) 0) (λ t. let y : _≡_ {A = ℕ} 0 1 = cc (rw t at h) in omega arith) (λ t. let y : _≡_ {A = ℕ} 0 1 = cc (rw t at h) in omega arith)
-edge-some g s entry-is.Close h z = byTest (endsWrong g s) (λ t. let y : _≡_ {A = ℕ} 0 1 = cc (rw t at h) in omega arith) (λ t. let y : _≡_ {A = ℕ} 0 1 = cc (rw t at h) in omega arith)
+edge-some g s entry-is.Row h z =
+    byTest (notBelow (s .count) g) (λ t. let y : _≡_ {A = ℕ} 0 1 = cc (rw t at h) in omega arith)
+    (λ t. let y : _≡_ {A = ℕ} 0 1 = cc (rw t at h) in omega arith)
+edge-some g s entry-is.Bare h z =
+    byTest (eqb (s .count) 0) (λ t. let y : _≡_ {A = ℕ} 0 1 = cc (rw t at h) in omega arith)
+    (λ t. let y : _≡_ {A = ℕ} 0 1 = cc (rw t at h) in omega arith)
+edge-some g s entry-is.Close h z =
+    byTest (endsWrong g s) (λ t. let y : _≡_ {A = ℕ} 0 1 = cc (rw t at h) in omega arith)
+    (λ t. let y : _≡_ {A = ℕ} 0 1 = cc (rw t at h) in omega arith)
 edge-some g s entry-is.Sig h z = let y : _≡_ {A = ℕ} 0 1 = cc in omega arith
 edge-some g s entry-is.Text h z = let y : _≡_ {A = ℕ} 0 1 = cc in omega arith
 edge-some g s entry-is.Join h z = let y : _≡_ {A = ℕ} 0 1 = cc in omega arith

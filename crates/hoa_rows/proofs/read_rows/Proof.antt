@@ -20,16 +20,22 @@ enum-known-rows c = search needs
 
 hand-over-requires : tie.Need-hand-over-requires
 hand-over-requires c κs =
-    let a = c .before .before .before .before .before .before .before .before .before .before .before .before .before .before .before .before .before .before .before .args in
-    let read = c .before .before .before .before .before .before .before .before .before .before .read-entries in
-    let told = subst (Ended (rowsEnd (a .limits) (now (a .text)) (a .at)) (read .last .1 .1 .1 .0) (read .last .1 .1 .1 .1 .0) (read .last .1 .1 .1 .1 .1 .0) (read .last .1 .1 .1 .1 .1 .1 .0)) (c .before .before .before .before .before .before .before .before .rows .given .1) (read .ensures) in
+    let at-rows = c .before .before .before .before .before .before .before .before in
+    let at-read = at-rows .before .before in
+    let a = at-read .before .before .before .before .before .before .before .before .before .args in
+    let read = at-read .read-entries in
+    let told = subst
+    (Ended (rowsEnd (a .limits) (now (a .text)) (a .at)) (read .last .1 .1 .1 .0) (read .last .1 .1 .1 .1 .0) (read .last .1 .1 .1 .1 .1 .0) (read .last .1 .1 .1 .1 .1 .1 .0))
+    (at-rows .rows .given .1) (read .ensures) in
     handing (a .limits) (now (a .text)) (a .at) _ _ _ _ _ told
 
 returns : tie.Need-returns
 returns c =
     let a = c .before .before .before .before .before .before .before .before .before .before .before .before .args in
     let read = c .before .before .before .read-entries in
-    let told = subst (Ended (rowsEnd (a .limits) (now (a .text)) (a .at)) (read .last .1 .1 .1 .0) (read .last .1 .1 .1 .1 .0) (read .last .1 .1 .1 .1 .1 .0) (read .last .1 .1 .1 .1 .1 .1 .0)) (c .before .number .given .1) (read .ensures) in
+    let told = subst
+    (Ended (rowsEnd (a .limits) (now (a .text)) (a .at)) (read .last .1 .1 .1 .0) (read .last .1 .1 .1 .1 .0) (read .last .1 .1 .1 .1 .1 .0) (read .last .1 .1 .1 .1 .1 .1 .0))
+    (c .before .number .given .1) (read .ensures) in
     rows-refused (a .limits) (now (a .text)) (a .at) (now (a .from)) (now (a .to)) (now (a .marks)) _ _ told
 
 same-length : tie.Need-same-length
@@ -43,10 +49,14 @@ same-length-3 c = search needs
 
 returns-2 : tie.Need-returns-2
 returns-2 c =
-    let a = c .before .before .before .before .before .before .before .before .before .before .before .before .before .before .before .before .before .before .before .before .before .before .before .before .before .before .args in
-    let read = c .before .before .before .before .before .before .before .before .before .before .before .before .before .before .before .before .before .read-entries in
+    let at-rows = c .before .before .before .before .before .before .before .before .before .before .before .before .before .before .before in
+    let at-read = at-rows .before .before in
+    let a = at-read .before .before .before .before .before .before .before .before .before .args in
+    let read = at-read .read-entries in
     let over = c .before .before .before .before .before .before .hand-over in
-    let told = subst (Ended (rowsEnd (a .limits) (now (a .text)) (a .at)) (read .last .1 .1 .1 .0) (read .last .1 .1 .1 .1 .0) (read .last .1 .1 .1 .1 .1 .0) (read .last .1 .1 .1 .1 .1 .1 .0)) (c .before .before .before .before .before .before .before .before .before .before .before .before .before .before .before .rows .given .1) (read .ensures) in
+    let told = subst
+    (Ended (rowsEnd (a .limits) (now (a .text)) (a .at)) (read .last .1 .1 .1 .0) (read .last .1 .1 .1 .1 .0) (read .last .1 .1 .1 .1 .1 .0) (read .last .1 .1 .1 .1 .1 .1 .0))
+    (at-rows .rows .given .1) (read .ensures) in
     rows-handed (a .limits) (now (a .text)) (a .at) _ _ _ _ _ told (now (a .from)) (now (a .to)) (now (a .marks)) _ _ _ (over .result) (over .ensures)
 
 pub read-rows-spec : {M : Type 1} → statement M

@@ -47,7 +47,9 @@ add-next c =
     let at-entry = at-loop .before .before .before .before in
     let a = at-entry .args in
     let l = at-loop .loop in
-    rw (c .before .index-of .ensures) (omega (arith, room-from (a .states) (now (a .firsts)) (now (a .ends)) (now (a .tos)) (now (a .sets)) (now (a .from)) (now (a .to)) (now (a .marks)) (l .from) (l .to) (l .marks) (l .q) (l .m) (l .inv) (at-entry .pre) (c .before .before .before .loop-test .taken), l .inv .from-size, at-entry .good))
+    let room = room-from (a .states) (now (a .firsts)) (now (a .ends)) (now (a .tos)) (now (a .sets)) (now (a .from)) (now (a .to)) (now (a .marks)) (l .from)
+    (l .to) (l .marks) (l .q) (l .m) (l .inv) (at-entry .pre) (c .before .before .before .loop-test .taken) in
+    rw (c .before .index-of .ensures) (omega (arith, room, l .inv .from-size, at-entry .good))
 
 cast-fill : tie.Need-cast-fill Inv-loop μ-loop
 cast-fill c =
@@ -63,7 +65,9 @@ fill-requires c κs =
     let at-entry = at-loop .before .before .before .before in
     let a = at-entry .args in
     let l = at-loop .loop in
-    rw (c .before .before .index-of .ensures) (omega arith, room-from (a .states) (now (a .firsts)) (now (a .ends)) (now (a .tos)) (now (a .sets)) (now (a .from)) (now (a .to)) (now (a .marks)) (l .from) (l .to) (l .marks) (l .q) (l .m) (l .inv) (at-entry .pre) (c .before .before .before .before .loop-test .taken))
+    let room = room-from (a .states) (now (a .firsts)) (now (a .ends)) (now (a .tos)) (now (a .sets)) (now (a .from)) (now (a .to)) (now (a .marks)) (l .from)
+    (l .to) (l .marks) (l .q) (l .m) (l .inv) (at-entry .pre) (c .before .before .before .before .loop-test .taken) in
+    rw (c .before .before .index-of .ensures) (omega arith, room)
 
 copy-part-requires : tie.Need-copy-part-requires Inv-loop μ-loop
 copy-part-requires c κs =
@@ -71,7 +75,9 @@ copy-part-requires c κs =
     let at-entry = at-loop .before .before .before .before in
     let a = at-entry .args in
     let l = at-loop .loop in
-    rw (c .before .before .before .before .before .before .index-of .ensures) (room-to (a .states) (now (a .firsts)) (now (a .ends)) (now (a .tos)) (now (a .sets)) (now (a .from)) (now (a .to)) (now (a .marks)) (l .from) (l .to) (l .marks) (l .q) (l .m) (l .inv) (at-entry .pre) (c .before .before .before .before .before .before .before .before .loop-test .taken))
+    let room = room-to (a .states) (now (a .firsts)) (now (a .ends)) (now (a .tos)) (now (a .sets)) (now (a .from)) (now (a .to)) (now (a .marks)) (l .from) (l .to)
+    (l .marks) (l .q) (l .m) (l .inv) (at-entry .pre) (c .before .before .before .before .before .before .before .before .loop-test .taken) in
+    rw (c .before .before .before .before .before .before .index-of .ensures) room
 
 copy-part-requires-2 : tie.Need-copy-part-requires-2 Inv-loop μ-loop
 copy-part-requires-2 c κs =
@@ -79,7 +85,10 @@ copy-part-requires-2 c κs =
     let at-entry = at-loop .before .before .before .before in
     let a = at-entry .args in
     let l = at-loop .loop in
-    rw (c .before .before .before .before .before .before .before .before .before .before .index-of .ensures) (room-marks (a .states) (now (a .firsts)) (now (a .ends)) (now (a .tos)) (now (a .sets)) (now (a .from)) (now (a .to)) (now (a .marks)) (l .from) (l .to) (l .marks) (l .q) (l .m) (l .inv) (at-entry .pre) (c .before .before .before .before .before .before .before .before .before .before .before .before .loop-test .taken))
+    let at-test = c .before .before .before .before .before .before .before .before .before .before .before .before in
+    let room = room-marks (a .states) (now (a .firsts)) (now (a .ends)) (now (a .tos)) (now (a .sets)) (now (a .from)) (now (a .to)) (now (a .marks)) (l .from)
+    (l .to) (l .marks) (l .q) (l .m) (l .inv) (at-entry .pre) (at-test .loop-test .taken) in
+    rw (c .before .before .before .before .before .before .before .before .before .before .index-of .ensures) room
 
 add-q : tie.Need-add-q Inv-loop μ-loop
 add-q c = search needs
@@ -93,8 +102,13 @@ loop-again c =
     let at-entry = at-loop .before .before .before .before in
     let a = at-entry .args in
     let l = at-loop .loop in
-    sorting-more (a .states) (now (a .firsts)) (now (a .ends)) (now (a .tos)) (now (a .sets)) (now (a .from)) (now (a .to)) (now (a .marks)) (l .from) (l .to) (l .marks) (l .q) (l .m) (l .inv) (at-entry .pre) (c .before .before .before .before .before .before .before .before .before .before .before .before .before .before .before .loop-test .taken) _ _ _ _ _ (c .before .before .before .before .before .before .before .before .before .before .before .before .before .index-of .ensures) refl
-    (c .before .before .before .before .before .before .before .before .before .before .fill .kept .0) (c .before .before .before .before .before .before .copy-part .kept .0) (c .before .before .copy-part2 .kept .0) (c .before .before .before .before .before .before .before .before .before .before .fill .ensures) (c .before .before .before .before .before .before .copy-part .ensures) (c .before .before .copy-part2 .ensures)
+    let last = c .before .before in
+    let second = last .before .before .before .before in
+    let first = second .before .before .before .before in
+    let at-index = first .before .before .before in
+    sorting-more (a .states) (now (a .firsts)) (now (a .ends)) (now (a .tos)) (now (a .sets)) (now (a .from)) (now (a .to)) (now (a .marks)) (l .from) (l .to)
+    (l .marks) (l .q) (l .m) (l .inv) (at-entry .pre) (at-index .before .before .loop-test .taken) _ _ _ _ _ (at-index .index-of .ensures) refl
+    (first .fill .kept .0) (second .copy-part .kept .0) (last .copy-part2 .kept .0) (first .fill .ensures) (second .copy-part .ensures) (last .copy-part2 .ensures)
 
 same-length : tie.Need-same-length Inv-loop μ-loop
 same-length c = c .before .loop .inv .from-size

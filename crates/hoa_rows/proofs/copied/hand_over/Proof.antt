@@ -12,30 +12,41 @@ enough-requires c κs = search needs
 
 copy-rows-requires : tie.Need-copy-rows-requires
 copy-rows-requires c κs =
-    let at-entry = c .before .before .before .before .before .before .before .before in
+    let at-test = c .before .before .before in
+    let at-entry = at-test .before .before .before .before .before in
     let a = at-entry .args in
-    fitting (a .rows) (now (a .firsts)) (now (a .ends)) (now (a .tos)) (now (a .sets)) (now (a .from)) (now (a .to)) (now (a .marks)) (at-entry .pre) (sym (c .before .before .before .before .enough .ensures) ∙ c .before .before .before .if1 .taken)
+    fitting (a .rows) (now (a .firsts)) (now (a .ends)) (now (a .tos)) (now (a .sets)) (now (a .from)) (now (a .to)) (now (a .marks)) (at-entry .pre)
+    (sym (at-test .before .enough .ensures) ∙ at-test .if1 .taken)
 
 fill-requires : tie.Need-fill-requires
 fill-requires c κs =
-    let at-entry = c .before .before .before .before .before .before .before .before .before .before .before .before .before .before .before .before in
+    let at-copied = c .before .before .before .before .before .before .before in
+    let at-test = at-copied .before .before .before .before in
+    let at-entry = at-test .before .before .before .before .before in
     let a = at-entry .args in
-    let g = long (a .rows .kept) (now (a .from)) (now (a .to)) (now (a .marks)) (sym (c .before .before .before .before .before .before .before .before .before .before .before .before .enough .ensures) ∙ c .before .before .before .before .before .before .before .before .before .before .before .if1 .taken) in
-    (g .from-room, omega (arith, c .before .before .before .before .before .before .before .copy-rows .kept .1 .1 .1 .1 .1 .0))
+    let enough = sym (at-test .before .enough .ensures) ∙ at-test .if1 .taken in
+    let g = long (a .rows .kept) (now (a .from)) (now (a .to)) (now (a .marks)) enough in
+    (g .from-room, omega (arith, at-copied .copy-rows .kept .1 .1 .1 .1 .1 .0))
 
 fill-requires-2 : tie.Need-fill-requires-2
 fill-requires-2 c κs =
-    let at-entry = c .before .before .before .before .before .before .before .before .before .before .before .before .before .before .before .before .before .before .before .before in
+    let at-copied = c .before .before .before .before .before .before .before .before .before .before .before in
+    let at-test = at-copied .before .before .before .before in
+    let at-entry = at-test .before .before .before .before .before in
     let a = at-entry .args in
-    let g = long (a .rows .kept) (now (a .from)) (now (a .to)) (now (a .marks)) (sym (c .before .before .before .before .before .before .before .before .before .before .before .before .before .before .before .before .enough .ensures) ∙ c .before .before .before .before .before .before .before .before .before .before .before .before .before .before .before .if1 .taken) in
-    (g .to-room, omega (arith, c .before .before .before .before .before .before .before .before .before .before .before .copy-rows .kept .1 .1 .1 .1 .1 .1 .0))
+    let enough = sym (at-test .before .enough .ensures) ∙ at-test .if1 .taken in
+    let g = long (a .rows .kept) (now (a .from)) (now (a .to)) (now (a .marks)) enough in
+    (g .to-room, omega (arith, at-copied .copy-rows .kept .1 .1 .1 .1 .1 .1 .0))
 
 fill-requires-3 : tie.Need-fill-requires-3
 fill-requires-3 c κs =
-    let at-entry = c .before .before .before .before .before .before .before .before .before .before .before .before .before .before .before .before .before .before .before .before .before .before .before .before in
+    let at-copied = c .before .before .before .before .before .before .before .before .before .before .before .before .before .before .before in
+    let at-test = at-copied .before .before .before .before in
+    let at-entry = at-test .before .before .before .before .before in
     let a = at-entry .args in
-    let g = long (a .rows .kept) (now (a .from)) (now (a .to)) (now (a .marks)) (sym (c .before .before .before .before .before .before .before .before .before .before .before .before .before .before .before .before .before .before .before .before .enough .ensures) ∙ c .before .before .before .before .before .before .before .before .before .before .before .before .before .before .before .before .before .before .before .if1 .taken) in
-    (g .marks-room, omega (arith, c .before .before .before .before .before .before .before .before .before .before .before .before .before .before .before .copy-rows .kept .1 .1 .1 .1 .1 .1 .1 .0))
+    let enough = sym (at-test .before .enough .ensures) ∙ at-test .if1 .taken in
+    let g = long (a .rows .kept) (now (a .from)) (now (a .to)) (now (a .marks)) enough in
+    (g .marks-room, omega (arith, at-copied .copy-rows .kept .1 .1 .1 .1 .1 .1 .1 .0))
 
 cast-t28 : tie.Need-cast-t28
 cast-t28 c = search needs
@@ -54,17 +65,24 @@ same-length-3 c = search needs
 
 returns : tie.Need-returns
 returns c =
-    let at-entry = c .before .before .before .before .before .before .before .before .before .before .before .before .before .before .before .before .before .before .before .before .before .before .before .before .before .before .before in
+    let at-copied = c .before .before .before .before .before .before .before .before .before .before .before .before .before .before .before .before .before .before in
+    let at-test = at-copied .before .before .before .before in
+    let at-entry = at-test .before .before .before .before .before in
     let a = at-entry .args in
-    let copied = c .before .before .before .before .before .before .before .before .before .before .before .before .before .before .before .before .before .before .copy-rows in
-    handed-all (a .rows) (now (a .firsts)) (now (a .ends)) (now (a .tos)) (now (a .sets)) (now (a .from)) (now (a .to)) (now (a .marks)) (at-entry .pre) (sym (c .before .before .before .before .before .before .before .before .before .before .before .before .before .before .before .before .before .before .before .before .before .before .before .enough .ensures) ∙ c .before .before .before .before .before .before .before .before .before .before .before .before .before .before .before .before .before .before .before .before .before .before .if1 .taken) _ _ _ _ _ _
+    let enough = sym (at-test .before .enough .ensures) ∙ at-test .if1 .taken in
+    let copied = at-copied .copy-rows in
+    let last = c .before .before in
+    let second = last .before .before .before .before in
+    let first = second .before .before .before .before in
+    handed-all (a .rows) (now (a .firsts)) (now (a .ends)) (now (a .tos)) (now (a .sets)) (now (a .from)) (now (a .to)) (now (a .marks)) (at-entry .pre) enough _ _ _ _ _ _
     (copied .ensures) (copied .kept .1 .1 .1 .1 .1 .0) (copied .kept .1 .1 .1 .1 .1 .1 .0) (copied .kept .1 .1 .1 .1 .1 .1 .1 .0)
-    (c .before .before .before .before .before .before .before .before .before .before .fill .ensures) (c .before .before .before .before .before .before .fill2 .ensures) (c .before .before .fill3 .ensures) (c .before .before .before .before .before .before .before .before .before .before .fill .kept .0) (c .before .before .before .before .before .before .fill2 .kept .0) (c .before .before .fill3 .kept .0)
+    (first .fill .ensures) (second .fill2 .ensures) (last .fill3 .ensures) (first .fill .kept .0) (second .fill2 .kept .0) (last .fill3 .kept .0)
 
 returns-2 : tie.Need-returns-2
 returns-2 c =
     let a = c .before .before .before .before .before .args in
-    handed-short (a .rows) (now (a .firsts)) (now (a .ends)) (now (a .tos)) (now (a .sets)) (now (a .from)) (now (a .to)) (now (a .marks)) (sym (c .before .enough .ensures) ∙ c .if1 .left)
+    handed-short (a .rows) (now (a .firsts)) (now (a .ends)) (now (a .tos)) (now (a .sets)) (now (a .from)) (now (a .to)) (now (a .marks))
+    (sym (c .before .enough .ensures) ∙ c .if1 .left)
 
 pub hand-over-spec : {M : Type 1} → statement M
 hand-over-spec =

@@ -22,7 +22,8 @@ sub-t14 c = omega (arith, label-onward (c .before .before .before .set .given .1
 returns : tie.Need-returns
 returns c =
     let a = c .before .before .before .before .before .before .before .args in
-    edge-full (a .limits) (now (a .text)) (a .at) (a .before) (a .kept) (c .before .before .before .set .given .1) (c .before .before .before .before .before .read-label .ensures) (c .before .if1 .taken) (c .if2 .taken)
+    edge-full (a .limits) (now (a .text)) (a .at) (a .before) (a .kept) (c .before .before .before .set .given .1)
+    (c .before .before .before .before .before .read-label .ensures) (c .before .if1 .taken) (c .if2 .taken)
 
 read-to-requires : tie.Need-read-to-requires
 read-to-requires c κs = search needs
@@ -35,7 +36,8 @@ returns-2 c =
 returns-3 : tie.Need-returns-3
 returns-3 c =
     let a = c .before .before .before .before .before .before .before .args in
-    edge-there (a .limits) (now (a .text)) (a .at) (a .before) (a .kept) (c .before .before .before .set .given .1) (c .before .before .before .before .before .read-label .ensures) (c .read-to .result)
+    edge-there (a .limits) (now (a .text)) (a .at) (a .before) (a .kept) (c .before .before .before .set .given .1)
+    (c .before .before .before .before .before .read-label .ensures) (c .read-to .result)
     (⊎-elim (λ w o. w .1 .left) (λ w o. absurd (omega (arith, w .left))) (c .before .if1 .came))
     (c .read-to .ensures)
 

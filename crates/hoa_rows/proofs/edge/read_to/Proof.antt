@@ -32,12 +32,16 @@ returns c =
 returns-2 : tie.Need-returns-2
 returns-2 c =
     let a = c .before .before .before .before .before .before .before .before .before .args in
-    to-sig-refused (a .limits) (now (a .text)) (a .at) (a .before) (a .set) (c .before .before .before .before .before .to .given .1) (c .before .before .before .before .before .before .before .read-target .ensures) (c .before .number2 .given .1) (c .before .before .before .read-edge-sig .ensures)
+    to-sig-refused (a .limits) (now (a .text)) (a .at) (a .before) (a .set) (c .before .before .before .before .before .to .given .1)
+    (c .before .before .before .before .before .before .before .read-target .ensures) (c .before .number2 .given .1)
+    (c .before .before .before .read-edge-sig .ensures)
 
 returns-3 : tie.Need-returns-3
 returns-3 c =
     let a = c .before .before .before .before .before .before .before .before .before .args in
-    to-there (a .limits) (now (a .text)) (a .at) (a .before) (a .set) (c .before .before .before .before .before .to .given .1) (c .before .before .before .before .before .before .before .read-target .ensures) (c .before .marks .given .1) (c .before .before .before .read-edge-sig .ensures)
+    to-there (a .limits) (now (a .text)) (a .at) (a .before) (a .set) (c .before .before .before .before .before .to .given .1)
+    (c .before .before .before .before .before .before .before .read-target .ensures) (c .before .marks .given .1)
+    (c .before .before .before .read-edge-sig .ensures)
 
 pub read-to-spec : {M : Type 1} → statement M
 read-to-spec =

@@ -1,4 +1,5 @@
--- `reader::read_entries` meets its contract: before each entry the rows so far are held, and the tokens left decide (`Standing`). The measure is what is left of the text. Assumes nothing.
+-- `reader::read_entries` meets its contract: before each entry the rows so far are held, and the tokens left decide (`Standing`).
+-- The measure is what is left of the text. Assumes nothing.
 use Prim.Native.Nat.{_-_}
 use lib.ListN.{length}
 use denote.Ref.{now}
@@ -32,7 +33,8 @@ returns c =
     let a = at-loop .before .before .args in
     let l = at-loop .loop in
     let turn = c .before .before .before .read-entry in
-    turn-over (a .limits) (now (a .text)) (a .at) (l .place) (l .rows) (l .tos) (l .sets) (l .firsts) (l .ends) (l .inv) _ _ _ _ (turn .result) (turn .ensures) _ (c .before .ending .given .1)
+    turn-over (a .limits) (now (a .text)) (a .at) (l .place) (l .rows) (l .tos) (l .sets) (l .firsts) (l .ends) (l .inv) _ _ _ _ (turn .result) (turn .ensures) _
+    (c .before .ending .given .1)
 
 enum-known-more : tie.Need-enum-known-more Inv-loop μ-loop
 enum-known-more c = search needs
@@ -43,7 +45,8 @@ loop-less c =
     let a = at-loop .before .before .args in
     let l = at-loop .loop in
     let turn = c .before .before .before .read-entry in
-    let f = turn-goes (a .limits) (now (a .text)) (a .at) (l .place) (l .rows) (l .tos) (l .sets) (l .firsts) (l .ends) (l .inv) _ _ _ _ (turn .result) (turn .ensures) _ _ (c .before .more .given .1) in
+    let f = turn-goes (a .limits) (now (a .text)) (a .at) (l .place) (l .rows) (l .tos) (l .sets) (l .firsts) (l .ends) (l .inv) _ _ _ _ (turn .result)
+    (turn .ensures) _ _ (c .before .more .given .1) in
     omega (arith, f .onward .behind, f .onward .within)
 
 loop-again : tie.Need-loop-again Inv-loop μ-loop
@@ -52,7 +55,8 @@ loop-again c =
     let a = at-loop .before .before .args in
     let l = at-loop .loop in
     let turn = c .before .before .before .read-entry in
-    turn-goes (a .limits) (now (a .text)) (a .at) (l .place) (l .rows) (l .tos) (l .sets) (l .firsts) (l .ends) (l .inv) _ _ _ _ (turn .result) (turn .ensures) _ _ (c .before .more .given .1) .standing
+    turn-goes (a .limits) (now (a .text)) (a .at) (l .place) (l .rows) (l .tos) (l .sets) (l .firsts) (l .ends) (l .inv) _ _ _ _ (turn .result) (turn .ensures) _ _
+    (c .before .more .given .1) .standing
 
 pub read-entries-spec : {M : Type 1} → statement M
 read-entries-spec =

@@ -21,7 +21,8 @@ take-row-requires c κs =
     let a = at-entry .args in
     let here = c .before .before .before .before .before .entry-at in
     let begins = c .before .before .before .before .what-begins in
-    later-room (a .limits) (now (a .text)) (a .at) (here .result) (here .ensures) (a .rows) (begins .result) (begins .ensures) (rw (c .before .before .enum-told .given .1)) (at-entry .pre)
+    later-room (a .limits) (now (a .text)) (a .at) (here .result) (here .ensures) (a .rows) (begins .result) (begins .ensures)
+    (rw (c .before .before .enum-told .given .1)) (at-entry .pre)
 
 enum-told-2 : tie.Need-enum-told-2
 enum-told-2 c = search needs
@@ -32,7 +33,8 @@ take-edge-requires c κs =
     let a = at-entry .args in
     let here = c .before .before .before .before .before .before .entry-at in
     let begins = c .before .before .before .before .before .what-begins in
-    later-room (a .limits) (now (a .text)) (a .at) (here .result) (here .ensures) (a .rows) (begins .result) (begins .ensures) (rw (c .before .before .before .enum-told2 .given .1)) (at-entry .pre)
+    later-room (a .limits) (now (a .text)) (a .at) (here .result) (here .ensures) (a .rows) (begins .result) (begins .ensures)
+    (rw (c .before .before .before .enum-told2 .given .1)) (at-entry .pre)
 
 enum-told-3 : tie.Need-enum-told-3
 enum-told-3 c = search needs
@@ -49,7 +51,8 @@ returns c =
     let a = at-entry .args in
     let here = c .before .before .before .before .before .before .entry-at in
     let begins = c .before .before .before .before .before .what-begins in
-    entry-row (a .limits) (now (a .text)) (a .at) (here .result) (here .ensures) (a .rows) (begins .result) (begins .ensures) (now (a .tos)) (now (a .sets)) (now (a .firsts)) (now (a .ends)) _ _ (c .take-row .result) (c .before .before .before .enum-told .given .1) (c .take-row .ensures)
+    entry-row (a .limits) (now (a .text)) (a .at) (here .result) (here .ensures) (a .rows) (begins .result) (begins .ensures) (now (a .tos)) (now (a .sets))
+    (now (a .firsts)) (now (a .ends)) _ _ (c .take-row .result) (c .before .before .before .enum-told .given .1) (c .take-row .ensures)
 
 returns-2 : tie.Need-returns-2
 returns-2 c =
@@ -57,7 +60,8 @@ returns-2 c =
     let a = at-entry .args in
     let here = c .before .before .before .before .before .before .before .entry-at in
     let begins = c .before .before .before .before .before .before .what-begins in
-    entry-edge (a .limits) (now (a .text)) (a .at) (here .result) (here .ensures) (a .rows) (begins .result) (begins .ensures) (now (a .tos)) (now (a .sets)) (now (a .firsts)) (now (a .ends)) _ _ _ (c .take-edge .result) (c .before .before .before .before .enum-told2 .given .1) (c .take-edge .ensures)
+    entry-edge (a .limits) (now (a .text)) (a .at) (here .result) (here .ensures) (a .rows) (begins .result) (begins .ensures) (now (a .tos)) (now (a .sets))
+    (now (a .firsts)) (now (a .ends)) _ _ _ (c .take-edge .result) (c .before .before .before .before .enum-told2 .given .1) (c .take-edge .ensures)
 
 returns-3 : tie.Need-returns-3
 returns-3 c =
@@ -65,7 +69,8 @@ returns-3 c =
     let a = at-entry .args in
     let here = c .before .before .before .before .entry-at in
     let begins = c .before .before .before .what-begins in
-    entry-close (a .limits) (now (a .text)) (a .at) (here .result) (here .ensures) (a .rows) (begins .result) (begins .ensures) (now (a .tos)) (now (a .sets)) (now (a .firsts)) (now (a .ends)) (c .read-end .result) (c .before .enum-told3 .given .1) (c .read-end .ensures)
+    entry-close (a .limits) (now (a .text)) (a .at) (here .result) (here .ensures) (a .rows) (begins .result) (begins .ensures) (now (a .tos)) (now (a .sets))
+    (now (a .firsts)) (now (a .ends)) (c .read-end .result) (c .before .enum-told3 .given .1) (c .read-end .ensures)
 
 returns-4 : tie.Need-returns-4
 returns-4 c =
@@ -73,7 +78,8 @@ returns-4 c =
     let a = at-entry .args in
     let here = c .before .before .before .before .entry-at in
     let begins = c .before .before .before .what-begins in
-    entry-wrong (a .limits) (now (a .text)) (a .at) (here .result) (here .ensures) (a .rows) (begins .result) (begins .ensures) _ (now (a .tos)) (now (a .sets)) (now (a .firsts)) (now (a .ends)) (c .before .number .given .1)
+    entry-wrong (a .limits) (now (a .text)) (a .at) (here .result) (here .ensures) (a .rows) (begins .result) (begins .ensures) _ (now (a .tos)) (now (a .sets))
+    (now (a .firsts)) (now (a .ends)) (c .before .number .given .1)
 
 pub read-entry-spec : {M : Type 1} → statement M
 read-entry-spec =

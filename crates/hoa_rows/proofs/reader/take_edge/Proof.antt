@@ -19,19 +19,23 @@ keep-edge-requires : tie.Need-keep-edge-requires
 keep-edge-requires c κs =
     let at-entry = c .before .before .before .before .before .before .before .before in
     let a = at-entry .args in
-    edge-room (a .limits) (now (a .text)) (a .at) (a .rows) (at-entry .pre) (c .before .before .before .before .set .given .1) (c .before .before .before .before .before .before .read-edge .ensures)
+    edge-room (a .limits) (now (a .text)) (a .at) (a .rows) (at-entry .pre) (c .before .before .before .before .set .given .1)
+    (c .before .before .before .before .before .before .read-edge .ensures)
 
 returns : tie.Need-returns
 returns c =
     let at-entry = c .before .before .before .before .before in
     let a = at-entry .args in
-    edge-turned-wrong (a .limits) (now (a .text)) (a .at) (a .rows) (at-entry .pre) (now (a .tos)) (now (a .sets)) (now (a .ends)) (c .before .number .given .1) (c .before .before .before .read-edge .ensures)
+    edge-turned-wrong (a .limits) (now (a .text)) (a .at) (a .rows) (at-entry .pre) (now (a .tos)) (now (a .sets)) (now (a .ends)) (c .before .number .given .1)
+    (c .before .before .before .read-edge .ensures)
 
 returns-2 : tie.Need-returns-2
 returns-2 c =
     let at-entry = c .before .before .before .before .before .before .before .before .before in
     let a = at-entry .args in
-    edge-turned (a .limits) (now (a .text)) (a .at) (a .rows) (at-entry .pre) (now (a .tos)) (now (a .sets)) (now (a .ends)) _ _ _ _ (c .before .before .before .before .before .set .given .1) (c .before .before .before .before .before .before .before .read-edge .ensures) (c .keep-edge .ensures)
+    edge-turned (a .limits) (now (a .text)) (a .at) (a .rows) (at-entry .pre) (now (a .tos)) (now (a .sets)) (now (a .ends)) _ _ _ _
+    (c .before .before .before .before .before .set .given .1) (c .before .before .before .before .before .before .before .read-edge .ensures)
+    (c .keep-edge .ensures)
 
 pub take-edge-spec : {M : Type 1} → statement M
 take-edge-spec =

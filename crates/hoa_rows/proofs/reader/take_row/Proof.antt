@@ -19,19 +19,22 @@ begin-row-requires : tie.Need-begin-row-requires
 begin-row-requires c κs =
     let at-entry = c .before .before .before .before .before .before .before .before in
     let a = at-entry .args in
-    row-room (a .limits) (now (a .text)) (a .at) (a .rows) (at-entry .pre) (omega (arith, at-entry .good .0 .1)) (c .before .before .before .number2 .given .1) (c .before .before .before .before .before .read-row .ensures)
+    row-room (a .limits) (now (a .text)) (a .at) (a .rows) (at-entry .pre) (omega (arith, at-entry .good .0 .1)) (c .before .before .before .number2 .given .1)
+    (c .before .before .before .before .before .read-row .ensures)
 
 returns : tie.Need-returns
 returns c =
     let at-entry = c .before .before .before .before .before .before in
     let a = at-entry .args in
-    row-turned-wrong (a .limits) (now (a .text)) (a .at) (a .rows) (at-entry .pre) (now (a .firsts)) (now (a .ends)) (c .before .number .given .1) (c .before .before .before .read-row .ensures)
+    row-turned-wrong (a .limits) (now (a .text)) (a .at) (a .rows) (at-entry .pre) (now (a .firsts)) (now (a .ends)) (c .before .number .given .1)
+    (c .before .before .before .read-row .ensures)
 
 returns-2 : tie.Need-returns-2
 returns-2 c =
     let at-entry = c .before .before .before .before .before .before .before .before .before in
     let a = at-entry .args in
-    row-turned (a .limits) (now (a .text)) (a .at) (a .rows) (at-entry .pre) (now (a .firsts)) (now (a .ends)) _ _ _ (c .before .before .before .before .number2 .given .1) (c .before .before .before .before .before .before .read-row .ensures) (c .begin-row .ensures)
+    row-turned (a .limits) (now (a .text)) (a .at) (a .rows) (at-entry .pre) (now (a .firsts)) (now (a .ends)) _ _ _
+    (c .before .before .before .before .number2 .given .1) (c .before .before .before .before .before .before .read-row .ensures) (c .begin-row .ensures)
 
 pub take-row-spec : {M : Type 1} → statement M
 take-row-spec =

@@ -34,7 +34,8 @@ returns-2 c =
     let at-value = c .before .before .before .before in
     let a = at-value .before .before .before .before .args in
     let i = at-value .before .before .read-int in
-    number-large (a .states) (now (a .text)) (a .at) (now (a .firsts)) (at-value .value .given .1) (i .ensures) (sym (c .before .before .not-below .ensures) ∙ c .before .if1 .left) (c .if2 .taken)
+    number-large (a .states) (now (a .text)) (a .at) (now (a .firsts)) (at-value .value .given .1) (i .ensures)
+    (sym (c .before .before .not-below .ensures) ∙ c .before .if1 .left) (c .if2 .taken)
 
 cast-q : tie.Need-cast-q
 cast-q c = search needs
@@ -50,7 +51,8 @@ returns-3 c =
     let at-value = c .before .before .before .before .before .before in
     let a = at-value .before .before .before .before .args in
     let i = at-value .before .before .read-int in
-    number-twice (a .states) (now (a .text)) (a .at) (now (a .firsts)) (at-value .value .given .1) (i .ensures) (sym (c .before .before .before .before .not-below .ensures) ∙ c .before .before .before .if1 .left) (c .before .before .if2 .left) (c .if3 .taken)
+    number-twice (a .states) (now (a .text)) (a .at) (now (a .firsts)) (at-value .value .given .1) (i .ensures)
+    (sym (c .before .before .before .before .not-below .ensures) ∙ c .before .before .before .if1 .left) (c .before .before .if2 .left) (c .if3 .taken)
 
 returns-4 : tie.Need-returns-4
 returns-4 c =
@@ -63,7 +65,8 @@ returns-5 c =
     let at-value = c .before .before .before .before .before .before in
     let a = at-value .before .before .before .before .args in
     let i = at-value .before .before .read-int in
-    number-new (a .states) (now (a .text)) (a .at) (now (a .firsts)) (at-value .value .given .1) (i .ensures) (sym (c .before .before .before .before .not-below .ensures) ∙ c .before .before .before .if1 .left) (c .before .before .if2 .left) (c .if3 .left)
+    number-new (a .states) (now (a .text)) (a .at) (now (a .firsts)) (at-value .value .given .1) (i .ensures)
+    (sym (c .before .before .before .before .not-below .ensures) ∙ c .before .before .before .if1 .left) (c .before .before .if2 .left) (c .if3 .left)
 
 pub read-number-spec : {M : Type 1} → statement M
 read-number-spec =

@@ -35,12 +35,16 @@ returns c =
 returns-2 : tie.Need-returns-2
 returns-2 c =
     let a = c .before .before .before .before .before .before .before .before .before .before .args in
-    row-sig-refused (a .limits) (now (a .text)) (a .at) (now (a .firsts)) (c .before .before .before .before .before .before .number2 .given .1) (c .before .before .before .before .before .before .before .before .read-number .ensures) (c .before .before .before .before .skip-name .ensures) (c .before .number3 .given .1) (c .before .before .before .read-row-sig .ensures)
+    row-sig-refused (a .limits) (now (a .text)) (a .at) (now (a .firsts)) (c .before .before .before .before .before .before .number2 .given .1)
+    (c .before .before .before .before .before .before .before .before .read-number .ensures) (c .before .before .before .before .skip-name .ensures)
+    (c .before .number3 .given .1) (c .before .before .before .read-row-sig .ensures)
 
 returns-3 : tie.Need-returns-3
 returns-3 c =
     let a = c .before .before .before .before .before .before .before .before .before .before .args in
-    row-there (a .limits) (now (a .text)) (a .at) (now (a .firsts)) (c .before .before .before .before .before .before .number2 .given .1) (c .before .before .before .before .before .before .before .before .read-number .ensures) (c .before .before .before .before .skip-name .ensures) (c .before .marks .given .1) (c .before .before .before .read-row-sig .ensures)
+    row-there (a .limits) (now (a .text)) (a .at) (now (a .firsts)) (c .before .before .before .before .before .before .number2 .given .1)
+    (c .before .before .before .before .before .before .before .before .read-number .ensures) (c .before .before .before .before .skip-name .ensures)
+    (c .before .marks .given .1) (c .before .before .before .read-row-sig .ensures)
 
 pub read-row-spec : {M : Type 1} → statement M
 read-row-spec =

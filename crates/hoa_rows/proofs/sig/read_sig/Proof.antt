@@ -33,7 +33,8 @@ loop-less c =
     let a = at-loop .before .before .args in
     let f = c .before .before .before .before .token-at in
     let t = c .before .before .before .sig-token in
-    let g = sig-goes (now (a .text)) (a .at) (a .c) (a .before) (at-loop .loop .place) (at-loop .loop .marks) (at-loop .loop .inv) (f .result) (f .ensures) (t .result) (t .ensures) _ (c .before .more .given .1) in
+    let g = sig-goes (now (a .text)) (a .at) (a .c) (a .before) (at-loop .loop .place) (at-loop .loop .marks) (at-loop .loop .inv) (f .result) (f .ensures)
+    (t .result) (t .ensures) _ (c .before .more .given .1) in
     omega (arith, g .onward .behind, g .onward .within)
 
 loop-again : tie.Need-loop-again Inv-loop μ-loop
@@ -42,7 +43,8 @@ loop-again c =
     let a = at-loop .before .before .args in
     let f = c .before .before .before .before .token-at in
     let t = c .before .before .before .sig-token in
-    sig-goes (now (a .text)) (a .at) (a .c) (a .before) (at-loop .loop .place) (at-loop .loop .marks) (at-loop .loop .inv) (f .result) (f .ensures) (t .result) (t .ensures) _ (c .before .more .given .1) .so-far
+    sig-goes (now (a .text)) (a .at) (a .c) (a .before) (at-loop .loop .place) (at-loop .loop .marks) (at-loop .loop .inv) (f .result) (f .ensures) (t .result)
+    (t .ensures) _ (c .before .more .given .1) .so-far
 
 enum-known-all : tie.Need-enum-known-all Inv-loop μ-loop
 enum-known-all c = search needs
@@ -53,7 +55,8 @@ returns c =
     let a = at-loop .before .before .args in
     let f = c .before .before .before .before .token-at in
     let t = c .before .before .before .sig-token in
-    sig-shuts (now (a .text)) (a .at) (a .c) (a .before) (at-loop .loop .place) (at-loop .loop .marks) (at-loop .loop .inv) (f .result) (f .ensures) (t .result) (t .ensures) _ (c .before .all .given .1)
+    sig-shuts (now (a .text)) (a .at) (a .c) (a .before) (at-loop .loop .place) (at-loop .loop .marks) (at-loop .loop .inv) (f .result) (f .ensures) (t .result)
+    (t .ensures) _ (c .before .all .given .1)
 
 enum-known-number : tie.Need-enum-known-number Inv-loop μ-loop
 enum-known-number c = search needs
@@ -64,7 +67,8 @@ returns-2 c =
     let a = at-loop .before .before .args in
     let f = c .before .before .before .before .token-at in
     let t = c .before .before .before .sig-token in
-    sig-faults (now (a .text)) (a .at) (a .c) (a .before) (at-loop .loop .place) (at-loop .loop .marks) (at-loop .loop .inv) (f .result) (f .ensures) (t .result) (t .ensures) _ (c .before .number .given .1)
+    sig-faults (now (a .text)) (a .at) (a .c) (a .before) (at-loop .loop .place) (at-loop .loop .marks) (at-loop .loop .inv) (f .result) (f .ensures) (t .result)
+    (t .ensures) _ (c .before .number .given .1)
 
 pub read-sig-spec : {M : Type 1} → statement M
 read-sig-spec =

@@ -1,0 +1,2 @@
+-- The items. Assumes nothing.
+use Prim.Native.Nat.{ℕ}

@@ -1,0 +1,2 @@
+-- The names of AP:. Assumes nothing.
+use Prim.Native.Nat.{ℕ}

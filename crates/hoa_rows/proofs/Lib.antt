@@ -18,3 +18,5 @@ pub mod Worth
 pub mod Handing
 -- Promises: one result, never cut, and what is handed over is a table's worth
 pub mod Promises
+-- Examples: rows computed from the definitions
+pub mod Examples

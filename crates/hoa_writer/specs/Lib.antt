@@ -1,0 +1,6 @@
+-- Written: the text that is written for a table and a condition
+pub mod Written
+-- Writing: what the writer gives for every input
+pub mod Writing
+-- inner: what private contracts go by
+pub mod inner

@@ -4,3 +4,5 @@ pub mod Bytes
 pub mod Token
 -- Stream: the tokens of a text with their places
 pub mod Stream
+-- inner: what the crate's functions promise to each other
+pub mod inner

@@ -65,6 +65,20 @@ wordOf bs =
 abbrev pub unknown : List ℕ → Header
 unknown bs = cond (isCapital (getD bs 0 0)) header-is.Capital header-is.Lower
 
+-- the headers of hints and names, and those that the grammar does not know
+unfoldable pub furtherHeader : List ℕ → Header
+furtherHeader bs =
+    among
+    bs
+    (
+    (bytes "acc-name", header-is.AccName)
+    ∷ (bytes "tool", header-is.Tool)
+    ∷ (bytes "name", header-is.Name)
+    ∷ (bytes "properties", header-is.Properties)
+    ∷ (bytes "Alias", header-is.Alias)
+    ∷ [])
+    (unknown bs)
+
 -- the header with this text, its `:` left out
 unfoldable pub headerOf : List ℕ → Header
 headerOf bs =
@@ -75,15 +89,10 @@ headerOf bs =
     ∷ (bytes "States", header-is.States)
     ∷ (bytes "Start", header-is.Start)
     ∷ (bytes "AP", header-is.Ap)
-    ∷ (bytes "Alias", header-is.Alias)
     ∷ (bytes "Acceptance", header-is.Acceptance)
-    ∷ (bytes "acc-name", header-is.AccName)
-    ∷ (bytes "tool", header-is.Tool)
-    ∷ (bytes "name", header-is.Name)
-    ∷ (bytes "properties", header-is.Properties)
     ∷ (bytes "State", header-is.State)
     ∷ [])
-    (unknown bs)
+    (furtherHeader bs)
 
 -- ---- each form
 

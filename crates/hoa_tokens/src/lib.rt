@@ -1,5 +1,16 @@
 // The tokens of the Hanoi format (docs/RULES.md, "The Hanoi format"): what stands at a place of a text. Relies on nothing.
 // What the tokens of a text are is in specs/.
+mod bytes;
+mod front;
+mod gap;
+mod name;
+mod number;
+mod string;
+
+use crate::front::front;
+use crate::gap::Ahead;
+use crate::gap::skip;
+ghost use Rattle.hoa_tokens.specs.Stream.{TokenAt};
 
 // A word; what the grammar asks for by name is told apart.
 pub enum Word {
@@ -61,4 +72,18 @@ pub struct Found {
     pub first: usize,
     pub next: usize,
     pub kind: Kind,
+}
+
+// The first token of the text from `at` on.
+pub fn token_at(text: &[u8], at: usize) -> Found
+    ensures { λ r. ⌜ TokenAt (now (text .entry)) at r ⌝ }
+{
+    match skip(text, at) {
+        Ahead::Clear(i) => front(text, i),
+        Ahead::Unclosed(i) => Found {
+            first: i,
+            next: text.len(),
+            kind: Kind::Bad,
+        },
+    }
 }

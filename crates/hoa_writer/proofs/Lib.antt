@@ -10,6 +10,10 @@ pub mod Rows
 pub mod Writings
 -- Size: how long a text is at most
 pub mod Size
+-- Spells: bytes that spell tokens
+pub mod Spells
+-- Ints: the digits of a number spell it
+pub mod Ints
 -- Unique: one result for one input
 pub mod Unique
 -- Examples: some texts

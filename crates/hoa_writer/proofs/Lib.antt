@@ -14,6 +14,8 @@ pub mod Size
 pub mod Spells
 -- Ints: the digits of a number spell it
 pub mod Ints
+-- Words: the words, headers, signs and keys of a text
+pub mod Words
 -- Unique: one result for one input
 pub mod Unique
 -- Examples: some texts

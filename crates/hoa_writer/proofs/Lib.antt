@@ -16,6 +16,8 @@ pub mod Spells
 pub mod Ints
 -- Words: the words, headers, signs and keys of a text
 pub mod Words
+-- Tokens: the tokens of what is written
+pub mod Tokens
 -- Unique: one result for one input
 pub mod Unique
 -- Examples: some texts

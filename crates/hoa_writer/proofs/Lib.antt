@@ -18,6 +18,8 @@ pub mod Ints
 pub mod Words
 -- Tokens: the tokens of what is written
 pub mod Tokens
+-- Back: what reading back rests on
+pub mod Back
 -- Unique: one result for one input
 pub mod Unique
 -- Examples: some texts

@@ -70,11 +70,13 @@ buchi-spells (suc k) l = free (spells-both (held-shut key-inf 0 (omega arith)) (
 
 module _ {key : List ℕ} {f : List Token → List Token} (K : Spells false key f) where
   -- a pair, by what its key spells
-  pub streett-pair-spells : (i : ℕ) → i < 16 → Spells false (streettPair key i) (λ ts. f (int (2 * i) ∷ (sign sign-is.ParenRight ∷ (sign sign-is.Or ∷ atomTokens word-is.Inf (2 * i + 1) (sign sign-is.ParenRight ∷ ts)))))
+  streett-pair-spells : (i : ℕ) → i < 16
+      → Spells false (streettPair key i) (λ ts. f (int (2 * i) ∷ (sign sign-is.ParenRight ∷ (sign sign-is.Or ∷ atomTokens word-is.Inf (2 * i + 1) (sign sign-is.ParenRight ∷ ts)))))
   unfolding bytes
   streett-pair-spells i l = spells-both (held-shut K (2 * i) (omega arith)) (spells-both (held-shut key-or-inf (2 * i + 1) (omega arith)) spells-shut)
 
-  pub rabin-pair-spells : (d k : ℕ) → d + (1 + k) ≤ 32 → Spells false (rabinPair key d k) (λ ts. f (int d ∷ (sign sign-is.ParenRight ∷ infsTokens (d + 1) k (sign sign-is.ParenRight ∷ ts))))
+  rabin-pair-spells : (d k : ℕ) → d + (1 + k) ≤ 32
+      → Spells false (rabinPair key d k) (λ ts. f (int d ∷ (sign sign-is.ParenRight ∷ infsTokens (d + 1) k (sign sign-is.ParenRight ∷ ts))))
   unfolding bytes
   rabin-pair-spells d k l = spells-both (held-shut K d (omega arith)) (spells-both (infs-spell (d + 1) k (omega arith)) spells-shut)
 
@@ -148,7 +150,9 @@ sig-spells : (set : ℕ) → Spells false (sigText set) (sigTokens set)
 unfolding sigText sigTokens bytes
 sig-spells set = go (eqb set 0)
   where
-    go : (none : Bool) → Spells false (cond none [] (bytes " {" ++ (marksText set ++ bytes "}"))) (λ ts. cond none ts (sign sign-is.BraceLeft ∷ joinedTokens (markTokens set) width (sign sign-is.BraceRight ∷ ts)))
+    go : (none : Bool)
+        → Spells false (cond none [] (bytes " {" ++ (marksText set ++ bytes "}")))
+        (λ ts. cond none ts (sign sign-is.BraceLeft ∷ joinedTokens (markTokens set) width (sign sign-is.BraceRight ∷ ts)))
     go true = spells-none
     go false = spells-both (spells-both spells-space spells-brace) (spells-apart (marks-spell set 32 (omega arith)) (λ bs h. apart-braced bs) spells-braced)
 
@@ -181,7 +185,8 @@ module _ (from to marks : List ℕ) (small : (e : ℕ) → getD to e 0 < 1000) w
 -- ---- the whole text
 
 head-spells : (n start : ℕ) → n < 1000 → start < 1000
-    → Spells false (headText n start) (λ ts. header header-is.Hoa ∷ (word word-is.V1 ∷ (header header-is.States ∷ (int n ∷ (header header-is.Start ∷ (int start ∷ (header header-is.Ap ∷ (int 0 ∷ ts))))))))
+    → Spells false (headText n start)
+    (λ ts. header header-is.Hoa ∷ (word word-is.V1 ∷ (header header-is.States ∷ (int n ∷ (header header-is.Start ∷ (int start ∷ (header header-is.Ap ∷ (int 0 ∷ ts))))))))
 unfolding headText bytes decimalIn
 head-spells n start l h =
     spells-both (spells-both key-hoa (spells-line spells-v1 apart-newline))

@@ -89,3 +89,63 @@ module _ {A : Type 0} (edge : ℕ → A) where
   abbrev pub byState : List ℕ → ℕ → List A
   byState from zero = []
   byState from (suc n) = byState from n ++ leavingTo from n (length from)
+
+  module _ (from : List ℕ) (s : ℕ) where
+    leaves : (k : ℕ) → getD from k 0 ≡ s → leavingTo from s (suc k) ≡ leavingTo from s k ++ (edge k ∷ [])
+    leaves k e = rw (eq-eqb (getD from k 0) s e)
+
+    stays : (k : ℕ) → (getD from k 0 ≡ s → ⊥) → leavingTo from s (suc k) ≡ leavingTo from s k
+    stays k e = rw (ne-eqb (getD from k 0) s e) (append-nil (leavingTo from s k))
+
+    module _ (a b : ℕ) (R : Row from s a b) where
+      none-before : (k : ℕ) → k ≤ a → leavingTo from s k ≡ []
+      none-before zero l = refl
+      none-before (suc k) l = stays k (λ (e : getD from k 0 ≡ s). omega (arith, R .before k l)) ∙ none-before k (omega arith)
+
+      all-inside : (j : ℕ) → a + j ≤ b → upTo a ++ leavingTo from s (a + j) ≡ upTo (a + j)
+      all-inside zero l = rw (add-zero a, none-before a (omega arith)) (append-nil (upTo a))
+      all-inside (suc j) l =
+          let here = leaves (a + j) (R .inside (a + j) (omega arith) (omega arith)) in
+          rw (add-suc a j)
+          (ap (λ (es : List A). upTo a ++ es) here ∙ sym (append-assoc (upTo a) (leavingTo from s (a + j)) (edge (a + j) ∷ []))
+          ∙ ap (λ (es : List A). es ++ (edge (a + j) ∷ [])) (all-inside j (omega arith)))
+
+      none-after : (j : ℕ) → b + j ≤ length from → leavingTo from s (b + j) ≡ leavingTo from s b
+      none-after zero l = rw (add-zero b)
+      none-after (suc j) l =
+          rw (add-suc b j) (stays (b + j) (λ (e : getD from (b + j) 0 ≡ s). omega (arith, R .after (b + j) (omega arith) (omega arith))) ∙ none-after j (omega arith))
+
+      -- the edges of a row stand behind those of the rows before it
+      row-next : upTo a ++ leavingTo from s (length from) ≡ upTo b
+      row-next =
+          let inside : a + (b - a) ≡ b = omega (arith, R .ordered) in
+          let after : b + (length from - b) ≡ length from = omega (arith, R .ends) in
+          ap (λ (es : List A). upTo a ++ es) (ap (leavingTo from s) (sym after) ∙ none-after (length from - b) (omega (arith, R .ends)))
+          ∙ (rw inside at (all-inside (b - a) (omega (arith, R .ordered))))
+
+  module _ (from : List ℕ) (up : Sorted from) where
+    -- the rows of the states below s are the edges before its row
+    record Upto (s : ℕ) : Type 0 where
+      row : ℕ
+      begins : Begins from s row
+      edges : byState from s ≡ upTo row
+
+    upto : (s : ℕ) → Upto s
+    upto zero = record { row = 0; begins = first-begins from; edges = refl }
+    upto (suc s) =
+        let u = upto s in
+        let R = row-is from up s (u .row) (u .begins) in
+        let b = u .row + run s (drop (u .row) from) in
+        record {
+          row = b;
+          begins = next-begins from s (u .row) b R;
+          edges = ap (λ (es : List A). es ++ leavingTo from s (length from)) (u .edges) ∙ row-next from s (u .row) b R;
+        }
+
+    -- the edges of a sorted table state by state are its edges in their order
+    pub edges-by-state : (n : ℕ) → ((e : ℕ) → e < length from → getD from e 0 < n) → byState from n ≡ upTo (length from)
+    edges-by-state n under =
+        let u = upto n in
+        let all : u .row ≡ length from =
+        below (u .row) (length from) (λ l. absurd (omega (arith, u .begins .larger (u .row) (omega arith) l, under (u .row) l))) (λ l. omega (arith, u .begins .within)) in
+        rw all at (u .edges)

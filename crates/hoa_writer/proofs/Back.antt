@@ -1,8 +1,8 @@
 -- What reading back rests on: the marks of an edge, put together again, are its set, and the edges state by state are the edges of the table. Assumes nothing.
 use mathlib.Core.Path.{_≡_, refl, sym, ap, _∙_}
-use mathlib.Core.Bool.{Bool, cond}
+use mathlib.Core.Bool.{cond}
 use mathlib.Core.List.{List, [], _∷_, _++_, append-nil, append-assoc}
-use mathlib.Core.Logic.{⊎-elim, _⊎_, inl, inr}
+use mathlib.Core.Logic.{⊎-elim, inl, inr}
 use Prim.Native.Nat.{ℕ, zero, suc, _+_, _-_, _/_, _%_, _^_, _≤_, _<_}
 use native.Mathlib.Nat.{add-zero, add-suc}
 use native.Mathlib.Omega.{arith}
@@ -12,9 +12,7 @@ use borrow.Author.Tests.{eq-eqb, ne-eqb}
 use Rattle.marks.specs.Mark.{has, union, width}
 use Rattle.marks.proofs.Cases.{same, below}
 use Rattle.marks.proofs.Laws.{has-none, has-or-not, has-union, has-power, has-fits, same-marks}
-use Rattle.table.specs.Table.{lent}
 use Rattle.table.specs.Row.{run, Row}
-use Rattle.table.specs.Refusal.{Proper}
 use Rattle.table.proofs.Rows.{Sorted, Begins, first-begins, row-is, next-begins}
 use Rattle.hoa_tokens.specs.Token.{Token}
 use Rattle.hoa_writer.specs.Tokens.{joinedTokens}
@@ -35,14 +33,17 @@ unfoldable pub gathered : ℕ → ℕ → ℕ
 gathered set zero = 0
 gathered set (suc k) = cond (eqb (set / 2 ^ k % 2) 1) (union (gathered set k) (2 ^ k)) (gathered set k)
 
+-- a mark that the set has comes in
 gathered-has : (set k : ℕ) → has k set → gathered set (suc k) ≡ union (gathered set k) (2 ^ k)
 unfolding gathered has
 gathered-has set k h = rw (eq-eqb (set / 2 ^ k % 2) 1 h)
 
+-- another does not
 gathered-not : (set k : ℕ) → (has k set → ⊥) → gathered set (suc k) ≡ gathered set k
 unfolding gathered has
 gathered-not set k h = rw (ne-eqb (set / 2 ^ k % 2) 1 h)
 
+-- none below 0
 gathered-zero : (set : ℕ) → gathered set 0 ≡ 0
 unfolding gathered
 gathered-zero set = refl
@@ -56,6 +57,7 @@ gathered-in set (suc k) i h =
     ⊎-elim (λ w. gathered-in set k i w) (λ w. rw (has-power i k .0 w) there) (has-union i (gathered set k) (2 ^ k) .0 (rw (gathered-has set k there) at h)))
     (λ absent. gathered-in set k i (rw (gathered-not set k absent) at h))
 
+-- it has each mark of the set that is below k
 in-gathered : (set k i : ℕ) → i < k → has i set → has i (gathered set k)
 in-gathered set zero i l h = absurd (omega arith)
 in-gathered set (suc k) i l h =
@@ -91,17 +93,21 @@ module _ {A : Type 0} (edge : ℕ → A) where
   byState from (suc n) = byState from n ++ leavingTo from n (length from)
 
   module _ (from : List ℕ) (s : ℕ) where
+    -- an edge that leaves s comes in
     leaves : (k : ℕ) → getD from k 0 ≡ s → leavingTo from s (suc k) ≡ leavingTo from s k ++ (edge k ∷ [])
     leaves k e = rw (eq-eqb (getD from k 0) s e)
 
+    -- another does not
     stays : (k : ℕ) → (getD from k 0 ≡ s → ⊥) → leavingTo from s (suc k) ≡ leavingTo from s k
     stays k e = rw (ne-eqb (getD from k 0) s e) (append-nil (leavingTo from s k))
 
     module _ (a b : ℕ) (R : Row from s a b) where
+      -- none before the row
       none-before : (k : ℕ) → k ≤ a → leavingTo from s k ≡ []
       none-before zero l = refl
       none-before (suc k) l = stays k (λ (e : getD from k 0 ≡ s). omega (arith, R .before k l)) ∙ none-before k (omega arith)
 
+      -- each inside the row
       all-inside : (j : ℕ) → a + j ≤ b → upTo a ++ leavingTo from s (a + j) ≡ upTo (a + j)
       all-inside zero l = rw (add-zero a, none-before a (omega arith)) (append-nil (upTo a))
       all-inside (suc j) l =
@@ -110,6 +116,7 @@ module _ {A : Type 0} (edge : ℕ → A) where
           (ap (λ (es : List A). upTo a ++ es) here ∙ sym (append-assoc (upTo a) (leavingTo from s (a + j)) (edge (a + j) ∷ []))
           ∙ ap (λ (es : List A). es ++ (edge (a + j) ∷ [])) (all-inside j (omega arith)))
 
+      -- none after the row
       none-after : (j : ℕ) → b + j ≤ length from → leavingTo from s (b + j) ≡ leavingTo from s b
       none-after zero l = rw (add-zero b)
       none-after (suc j) l =
@@ -130,6 +137,7 @@ module _ {A : Type 0} (edge : ℕ → A) where
       begins : Begins from s row
       edges : byState from s ≡ upTo row
 
+    -- state by state
     upto : (s : ℕ) → Upto s
     upto zero = record { row = 0; begins = first-begins from; edges = refl }
     upto (suc s) =

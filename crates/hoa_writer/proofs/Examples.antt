@@ -1,7 +1,6 @@
 -- Texts that the writer gives, computed from the definitions. Assumes nothing.
 use mathlib.Core.Path.{_≡_, refl}
-use mathlib.Core.List.{List, [], _∷_}
-use Prim.Native.Nat.{ℕ}
+use mathlib.Core.List.{[], _∷_}
 use Rattle.table.specs.declared.Acceptance.the-variants.{Buchi, Streett, Rabin}
 use Rattle.table.specs.Table.{lent}
 use Rattle.hoa_tokens.specs.Bytes.{bytes}
@@ -13,10 +12,12 @@ buchi-2 : formula (Buchi 2) [] ≡ bytes "Inf(0)&Inf(1)"
 unfolding bytes decimalIn joined buchiText
 buchi-2 = refl
 
+-- two Streett pairs
 streett-2 : formula (Streett 2) [] ≡ bytes "(Fin(0)|Inf(1))&(Fin(2)|Inf(3))"
 unfolding bytes decimalIn joined streettText
 streett-2 = refl
 
+-- two Rabin pairs, the second without needs
 rabin-2 : formula (Rabin 2) (1 ∷ 0 ∷ []) ≡ bytes "(Fin(0)&Inf(1))|(Fin(2))"
 unfolding bytes decimalIn joined rabinText
 rabin-2 = refl
@@ -31,10 +32,12 @@ buchi-0 : formula (Buchi 0) [] ≡ bytes "t"
 unfolding buchiText
 buchi-0 = refl
 
+-- no Streett pair
 streett-0 : formula (Streett 0) [] ≡ bytes "t"
 unfolding streettText
 streett-0 = refl
 
+-- no Rabin pair
 rabin-0 : formula (Rabin 0) [] ≡ bytes "f"
 unfolding rabinText
 rabin-0 = refl

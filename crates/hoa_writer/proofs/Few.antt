@@ -1,7 +1,7 @@
 -- Writing one text after another, in at most so many bytes. Assumes nothing.
 use mathlib.Core.Path.{_≡_, refl, sym, ap, _∙_}
-use mathlib.Core.List.{List, [], _∷_, _++_}
-use Prim.Native.Nat.{ℕ, zero, suc, _+_, _*_, _≤_, _<_}
+use mathlib.Core.List.{List, [], _++_}
+use Prim.Native.Nat.{ℕ, _+_, _≤_}
 use native.Mathlib.Nat.{add-zero}
 use native.Mathlib.Numerals.{add-one}
 use native.Mathlib.Omega.{arith}
@@ -34,10 +34,12 @@ few-length {out} {out'} {at} {r} {text} p = ap length (p .put .cells) ∙ length
 
 -- ---- a loop: k texts, in at most w bytes each
 
+-- none so far
 pub joined-none : (f : ℕ → List ℕ) (out : List ℕ) (at most : ℕ) → PutFew out out at (joined f 0) at most
 unfolding joined
 joined-none f out at most = few-none out at most
 
+-- one more
 pub joined-more : (f : ℕ → List ℕ) {out mid out' : List ℕ} {at m r k x y : ℕ} (most : ℕ) → PutFew out mid at (joined f k) m x → PutFew mid out' m (f k) r y → x + y ≤ most
     → PutFew out out' at (joined f (k + 1)) r most
 unfolding joined

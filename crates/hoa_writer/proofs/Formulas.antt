@@ -1,5 +1,5 @@
 -- The texts of formulas, from their first mark or pair on. Assumes nothing.
-use mathlib.Core.Path.{_≡_, refl, sym, ap}
+use mathlib.Core.Path.{_≡_, refl, ap}
 use mathlib.Core.List.{List, _++_}
 use Prim.Native.Nat.{ℕ, zero, suc, _+_, _-_, _*_, _≤_}
 use native.Mathlib.Nat.{le-refl}
@@ -12,26 +12,31 @@ use Rattle.job_text.specs.Printed.{PutFew}
 use Rattle.hoa_writer.specs.Written.{held, close, furtherInfs, buchiText, streettPair, furtherStreett, streettText, rabinPair, furtherRabin, rabinText}
 use Rattle.hoa_writer.proofs.Few.{joined-more}
 
+-- one less
 less-one : (k : ℕ) → suc k - 1 ≡ k
 less-one k = omega arith
 
 -- ---- none, or the first and the others
 
+-- no mark
 pub buchi-none : (k : ℕ) → k ≡ 0 → buchiText k ≡ bytes "t"
 unfolding buchiText
 buchi-none zero e = refl
 buchi-none (suc k) e = absurd (omega arith)
 
+-- the first mark and the others
 pub buchi-some : (k : ℕ) → (k ≡ 0 → ⊥) → buchiText k ≡ held (bytes "Inf(") 0 close ++ furtherInfs 1 (k - 1)
 unfolding buchiText
 buchi-some zero h = absurd (h refl)
 buchi-some (suc k) h = rw (less-one k)
 
+-- no Streett pair
 pub streett-none : (p : ℕ) → p ≡ 0 → streettText p ≡ bytes "t"
 unfolding streettText
 streett-none zero e = refl
 streett-none (suc p) e = absurd (omega arith)
 
+-- the first Streett pair and the others
 pub streett-some : (p : ℕ) → (p ≡ 0 → ⊥) → streettText p ≡ streettPair (bytes "(Fin(") 0 ++ furtherStreett (p - 1)
 unfolding streettText
 streett-some zero h = absurd (h refl)
@@ -43,11 +48,13 @@ pub streett-more : {out mid out' : List ℕ} {at m r : ℕ} (i : ℕ) → PutFew
 streett-more i p q = joined-more (λ j. streettPair (bytes "&(Fin(") (suc j)) _ p (rw (add-one i) at q) (omega arith)
 
 module _ (needs : List ℕ) where
+  -- no Rabin pair
   pub rabin-none : (p : ℕ) → p ≡ 0 → rabinText needs p ≡ bytes "f"
   unfolding rabinText
   rabin-none zero e = refl
   rabin-none (suc p) e = absurd (omega arith)
 
+  -- the first Rabin pair and the others
   pub rabin-some : (p : ℕ) → (p ≡ 0 → ⊥) → rabinText needs p ≡ rabinPair (bytes "(Fin(") 0 (need needs 0) ++ furtherRabin needs (p - 1)
   unfolding rabinText
   rabin-some zero h = absurd (h refl)
@@ -55,9 +62,11 @@ module _ (needs : List ℕ) where
 
   -- ---- the marks that the pairs deal out
 
+  -- what pair 0 takes
   pub dealt-one : dealt needs (0 + 1) ≡ 1 + need needs 0
   dealt-one = omega arith
 
+  -- what the next pair takes
   pub dealt-next : (i : ℕ) → dealt needs (i + 1 + 1) ≡ dealt needs (i + 1) + (1 + need needs (i + 1))
   dealt-next i = ap (dealt needs) (add-one (i + 1))
 

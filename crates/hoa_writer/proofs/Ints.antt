@@ -1,24 +1,25 @@
 -- The digits of a number spell it. Assumes nothing.
-use mathlib.Core.Path.{_≡_, refl, sym, ap, _∙_}
-use mathlib.Core.Bool.{Bool, true, false, false≢true, cond, not, _&&_, _||_}
+use mathlib.Core.Path.{_≡_, refl, sym, _∙_}
+use mathlib.Core.Bool.{Bool, true, false, false≢true, _&&_, _||_}
 use mathlib.Core.List.{List, [], _∷_, _++_, append-assoc}
 use Prim.Native.Nat.{ℕ, zero, suc, _+_, _-_, _*_, _/_, _%_, _≤_, _<_}
 use native.Mathlib.Nat.{add-zero}
 use native.Mathlib.Omega.{arith}
-use lib.Dec.{eqb, leb, ltb}
-use lib.ListN.{length, getD, take, length-append}
+use lib.Dec.{eqb, leb}
+use lib.ListN.{length, getD, length-append}
 use lib.Seq.{take-at}
-use borrow.Author.Tests.{eq-eqb, ne-eqb, le-leb, lt-leb, lt-ltb, le-ltb, leb-true}
+use borrow.Author.Tests.{ne-eqb, le-leb, lt-ltb, le-ltb, leb-true}
 use Rattle.marks.proofs.Cases.{same, below}
 use Rattle.hoa_tokens.specs.declared.Kind.the-variants as kind-is
-use Rattle.hoa_tokens.specs.Bytes.{between, isDigit, isLetter, isCapital, isName, isBlank, run}
-use Rattle.hoa_tokens.specs.Token.{Token, int, Taken, taken, intLimit, spelt, isInt, digits, number, front}
+use Rattle.hoa_tokens.specs.Bytes.{isDigit, isLetter, isName, isBlank, run}
+use Rattle.hoa_tokens.specs.Token.{int, taken, intLimit, spelt, isInt, number, front}
 use Rattle.hoa_tokens.proofs.Sizes.{byTest, run-some}
 use Rattle.job_text.specs.Printed.{decimalIn, decimal}
 use Rattle.hoa_writer.proofs.Spells.{Apart, Spells, spells-token}
 
 -- ---- bytes
 
+-- the byte of a digit
 digit-is : (d : ℕ) → d < 10 → isDigit (48 + d) ≡ true
 unfolding isDigit
 digit-is d l = rw (le-leb 48 (48 + d) (omega arith), le-leb (48 + d) 57 (omega arith))
@@ -28,10 +29,12 @@ both-true : (a b : Bool) → (a && b) ≡ true → a ≡ true
 both-true true b e = refl
 both-true false b e = absurd (false≢true e)
 
+-- no digit is below `0`
 digit-high : (b : ℕ) → isDigit b ≡ true → 48 ≤ b
 unfolding isDigit
 digit-high b e = leb-true 48 b (both-true (leb 48 b) (leb b 57) e)
 
+-- so it is no blank
 digit-clear : (b : ℕ) → 48 ≤ b → isBlank b ≡ false
 unfolding isBlank
 digit-clear b l =
@@ -44,14 +47,17 @@ digit-clear b l =
 
 -- ---- the digits of a number
 
+-- a number below 10
 one-digit : (k n : ℕ) → n < 10 → decimalIn (suc k) n ≡ (48 + n) ∷ []
 unfolding decimalIn
 one-digit k n l = rw (lt-ltb n 10 l)
 
+-- a number from 10 on
 more-digits : (k n : ℕ) → 10 ≤ n → decimalIn (suc k) n ≡ decimalIn k (n / 10) ++ ((48 + n % 10) ∷ [])
 unfolding decimalIn
 more-digits k n l = rw (le-ltb n 10 l)
 
+-- a digit that must suffice
 last-digit : (n : ℕ) → decimalIn 0 n ≡ (48 + n % 10) ∷ []
 unfolding decimalIn
 last-digit n = refl
@@ -67,11 +73,13 @@ digits-run (suc k) n bs =
     rw (more-digits k n l, append-assoc (decimalIn k (n / 10)) (x ∷ []) bs, long)
     (digits-run k (n / 10) (x ∷ bs) ∙ rw (run-some isDigit x bs (digit-is (n % 10) (omega arith))) (omega arith)))
 
+-- one digit more
 spelt-last : (m : ℕ) (ds : List ℕ) (x : ℕ) → spelt m (ds ++ (x ∷ [])) ≡ spelt m ds * 10 + (x - 48)
 unfolding spelt
 spelt-last m [] x = refl
 spelt-last m (d ∷ ds) x = spelt-last (m * 10 + (d - 48)) ds x
 
+-- one digit
 spelt-one : (d : ℕ) → spelt 0 ((48 + d) ∷ []) ≡ d
 unfolding spelt
 spelt-one d = omega arith
@@ -83,6 +91,7 @@ digits-spell (suc k) n l =
     below n 10 (λ s. rw (one-digit k n s) (spelt-one n))
     (λ s. rw (more-digits k n s, spelt-last 0 (decimalIn k (n / 10)) (48 + n % 10), digits-spell k (n / 10) (omega arith)) (omega arith))
 
+-- there is one
 digits-some : (k n : ℕ) → 0 < length (decimalIn k n)
 digits-some zero n = rw (last-digit n) (omega arith)
 digits-some (suc k) n =
@@ -94,6 +103,7 @@ first-of : (ds es : List ℕ) → 0 < length ds → getD (ds ++ es) 0 0 ≡ getD
 first-of [] es l = absurd (omega arith)
 first-of (d ∷ ds) es l = refl
 
+-- a number above 0 begins with no zero
 no-zero : (k n : ℕ) → n ≤ k → 0 < n → getD (decimalIn k n) 0 0 ≡ 48 → ⊥
 no-zero zero n l h e = omega arith
 no-zero (suc k) n l h e =
@@ -104,14 +114,17 @@ no-zero (suc k) n l h e =
 
 -- ---- the token
 
+-- whatever stands before it
 or-true : (b : Bool) → (b || true) ≡ true
 or-true true = refl
 or-true false = refl
 
+-- `0`
 zero-int : isInt (decimal 0) ≡ true
 unfolding isInt decimalIn spelt
 zero-int = refl
 
+-- they are an INT
 is-int : (n : ℕ) → n < intLimit → isInt (decimal n) ≡ true
 unfolding isInt
 is-int n l =
@@ -129,6 +142,7 @@ no-digit b e = go (isLetter b) (isDigit b) (eqb b 45) e
     go false true m q = absurd (false≢true (sym q))
     go false false m q = refl
 
+-- so no digit goes on there
 no-digits : (bs : List ℕ) → Apart true bs → run isDigit bs ≡ 0
 unfolding run
 no-digits [] h = refl
@@ -139,6 +153,7 @@ number-front : (b : ℕ) (bs : List ℕ) → isDigit b ≡ true → front (b ∷
 unfolding front
 number-front b bs e = rw e
 
+-- the digits in front, and nothing behind them, are the number
 number-is : (n : ℕ) (bs : List ℕ) → n < intLimit → Apart true bs → number (decimal n ++ bs) ≡ taken (int n) (length (decimal n))
 unfolding number
 number-is n bs l h =
@@ -151,6 +166,7 @@ unfolding run
 first-digit [] bs l e = absurd (omega arith)
 first-digit (b ∷ es) bs l e = byTest (isDigit b) (λ q. (b, (es, (refl, q)))) (λ q. absurd (omega (arith, rw q at e)))
 
+-- the digits of a number spell it
 pub spells-int : (n : ℕ) → n < intLimit → Spells true (decimal n) (λ ts. int n ∷ ts)
 spells-int n l =
     let (b, (es, (e, d))) = first-digit (decimal n) [] (digits-some n n) (digits-run n n []) in

@@ -1,5 +1,5 @@
 -- How long a text is at most: 52,205 bytes (docs/RULES.md, "The Hanoi format", the writer). Each number is counted with its digits. Assumes nothing.
-use mathlib.Core.Path.{_≡_, refl, sym, ap, _∙_}
+use mathlib.Core.Path.{_≡_, refl, ap}
 use mathlib.Core.Bool.{Bool, true, false, cond}
 use mathlib.Core.List.{List, [], _∷_, _++_}
 use Prim.Native.Nat.{ℕ, zero, suc, _+_, _-_, _*_, _/_, _%_, _^_, _≤_, _<_}
@@ -11,7 +11,7 @@ use borrow.Author.Tests.{eq-eqb, ne-eqb, lt-ltb, le-ltb, ltb-false}
 use Rattle.marks.proofs.Cases.{same, below}
 use Rattle.table.specs.declared.Acceptance.{Acceptance}
 use Rattle.table.specs.declared.Acceptance.the-variants.{Buchi, Streett, Rabin}
-use Rattle.table.specs.Table.{Table, lent}
+use Rattle.table.specs.Table.{lent}
 use Rattle.table.specs.Condition.{need, dealt}
 use Rattle.table.specs.Refusal.{used, wrongCondition}
 use Rattle.table.proofs.Sound.{Fit, used-few, rabin-few}
@@ -41,14 +41,17 @@ digits-zero : digitsTo 0 ≡ 0
 unfolding digitsTo
 digits-zero = refl
 
+-- one for 0
 digits-one : digitsTo 1 ≡ 1
 unfolding digitsTo
 digits-one = refl
 
+-- 54 for the marks
 digits-marks : (k : ℕ) → k ≤ 32 → digitsTo k ≤ 54
 unfolding digitsTo
 digits-marks k l = omega arith
 
+-- 658 for the states
 digits-states : (k : ℕ) → k ≤ mostWritten → digitsTo k ≤ 658
 unfolding digitsTo
 digits-states k l = omega arith
@@ -59,16 +62,20 @@ three n l = digits-few 2 n n l
 
 -- ---- texts
 
+-- the newline byte
 line-length : (text : List ℕ) → length (line text) ≡ length text + 1
 line-length text = length-append text (10 ∷ [])
 
+-- the key, the digits and the byte
 held-length : (key : List ℕ) (n last : ℕ) → length (held key n last) ≡ length key + length (decimal n) + 1
 held-length key n last = omega (arith, length-append (key ++ decimal n) (last ∷ []), length-append key (decimal n))
 
+-- one text more
 joined-length : (f : ℕ → List ℕ) (k : ℕ) → length (joined f (suc k)) ≡ length (joined f k) + length (f k)
 unfolding joined
 joined-length f k = length-append (joined f k) (f k)
 
+-- none
 joined-zero : (f : ℕ → List ℕ) → length (joined f 0) ≡ 0
 unfolding joined
 joined-zero f = refl
@@ -83,6 +90,7 @@ infs-most i (suc k) l =
     let more = joined-length (λ j. held (bytes "&Inf(") (i + j) close) k in
     omega (arith, held-length (bytes "&Inf(") (i + k) close, infs-most i k (omega arith), digits-step (i + k) (i + suc k) (omega arith) (omega arith))
 
+-- 32 marks
 buchi-most : (k : ℕ) → k ≤ 32 → length (buchiText k) ≤ 277
 unfolding buchiText bytes
 buchi-most zero l = omega arith
@@ -97,6 +105,7 @@ buchi-most (suc k) l =
       digits-marks (1 + k) (omega arith),
     )
 
+-- eight bytes beside the key and the digits
 streett-pair : (key : List ℕ) (i : ℕ) → i < 16 → length (streettPair key i) + digitsTo (2 * i) ≤ length key + 8 + digitsTo (2 * i + 2)
 unfolding bytes
 streett-pair key i l =
@@ -110,6 +119,7 @@ streett-pair key i l =
       digits-step (2 * i + 1) (2 * i + 2) (omega arith) (omega arith),
     )
 
+-- so many pairs behind the first
 streett-further : (k : ℕ) → k < 16 → length (furtherStreett k) + digitsTo 2 ≤ 14 * k + digitsTo (2 * k + 2)
 unfolding bytes
 streett-further zero l = omega (arith, joined-zero (λ i. streettPair (bytes "&(Fin(") (suc i)))
@@ -123,6 +133,7 @@ streett-further (suc k) l =
       streett-further k (omega arith),
     )
 
+-- 16 pairs: the longest formula
 streett-most : (p : ℕ) → p ≤ 16 → length (streettText p) ≤ 277
 unfolding streettText bytes
 streett-most zero l = omega arith
@@ -131,6 +142,7 @@ streett-most (suc p) l =
     let first : length (streettPair (bytes "(Fin(") 0) + digitsTo 0 ≤ 5 + 8 + digitsTo 2 = streett-pair (bytes "(Fin(") 0 (omega arith) in
     omega (arith, digits-zero, streett-further p (omega arith), digits-marks (2 * p + 2) (omega arith))
 
+-- two bytes beside the key, the digits and the needed marks
 rabin-pair : (key : List ℕ) (d k e : ℕ) → e ≡ d + (1 + k) → e ≤ 32 → length (rabinPair key d k) + digitsTo d ≤ length key + 2 + 6 * k + digitsTo e
 unfolding bytes
 rabin-pair key d k e q l =
@@ -146,6 +158,7 @@ rabin-pair key d k e q l =
     )
 
 module _ (needs : List ℕ) where
+  -- so many pairs behind the first
   rabin-further : (k : ℕ) → dealt needs (suc k) ≤ 32
       → length (furtherRabin needs k) + digitsTo (dealt needs 1) + 6 * dealt needs 1 ≤ 2 * k + 6 * dealt needs (suc k) + digitsTo (dealt needs (suc k))
   unfolding bytes
@@ -158,6 +171,7 @@ module _ (needs : List ℕ) where
         rabin-further k (omega arith),
       )
 
+  -- 8 pairs with 32 marks
   rabin-most : (p : ℕ) → p ≤ 8 → dealt needs p ≤ 32 → length (rabinText needs p) ≤ 277
   unfolding rabinText bytes
   rabin-most zero l h = omega arith
@@ -168,6 +182,7 @@ module _ (needs : List ℕ) where
       rabin-pair (bytes "(Fin(") 0 (need needs 0) (dealt needs 1) refl few in
       omega (arith, digits-zero, rabin-further p h, digits-marks (dealt needs (suc p)) h)
 
+-- every formula
 formula-most : (c : Acceptance) (needs : List ℕ) → wrongCondition c needs ≡ false → length (formula c needs) ≤ 277
 formula-most (Buchi k) needs h = buchi-most k (used-few (Buchi k) needs h)
 formula-most (Streett p) needs h = streett-most p (ltb-false 16 p h)
@@ -182,6 +197,7 @@ mark-length true true ds = omega arith
 mark-length true false ds = omega arith
 mark-length false lowest ds = omega arith
 
+-- mark 0 has no blank before it
 mark-first : (set : ℕ) → length (markText set 0) ≤ 1
 mark-first set =
     let lowest : eqb (set % 2 ^ 0) 0 ≡ true = eq-eqb (set % 2 ^ 0) 0 (omega arith) in
@@ -191,6 +207,7 @@ mark-first set =
     first-length true = digits-few 0 0 0 (omega arith)
     first-length false = omega arith
 
+-- a blank before each mark but one
 marks-most : (set k : ℕ) → k < 32 → length (joined (markText set) (suc k)) + 1 ≤ suc k + digitsTo (suc k)
 marks-most set zero l = omega (arith, joined-length (markText set) 0, joined-zero (markText set), mark-first set, digits-one)
 marks-most set (suc k) l =
@@ -202,6 +219,7 @@ marks-most set (suc k) l =
       digits-step (suc k) (suc (suc k)) (omega arith) (omega arith),
     )
 
+-- the brackets and a blank
 sig-most : (set : ℕ) → length (sigText set) ≤ 88
 unfolding sigText bytes
 sig-most set =
@@ -210,6 +228,7 @@ sig-most set =
     let long = length-append (marksText set) (bytes "}") in
     rw (ne-eqb set 0 z) (omega (arith, marks-most set 31 (omega arith), digits-marks 32 (omega arith))))
 
+-- the label, the target of three digits and the newline byte
 edge-most : (to set : ℕ) → to < 1000 → length (edgeText to set) ≤ 96
 unfolding edgeText bytes
 edge-most to set l =
@@ -222,10 +241,12 @@ leave : List ℕ → ℕ → ℕ → ℕ
 leave from s zero = 0
 leave from s (suc k) = leave from s k + cond (eqb (getD from k 0) s) 1 0
 
+-- how many of the first k edges leave a state below s
 lower : List ℕ → ℕ → ℕ → ℕ
 lower from s zero = 0
 lower from s (suc k) = lower from s k + cond (ltb (getD from k 0) s) 1 0
 
+-- no more than there are
 lower-most : (from : List ℕ) (s k : ℕ) → lower from s k ≤ k
 unfolding lower
 lower-most from s zero = omega arith
@@ -244,12 +265,14 @@ counted x s =
     same x s (λ (q : x ≡ s). rw (le-ltb x s l, lt-ltb x (suc s) (omega arith), eq-eqb x s q))
     (λ (q : x ≡ s → ⊥). rw (le-ltb x s l, le-ltb x (suc s) (omega arith), ne-eqb x s q)))
 
+-- those that leave s come in with the next state
 lower-next : (from : List ℕ) (s k : ℕ) → lower from (suc s) k ≡ lower from s k + leave from s k
 unfolding lower leave
 lower-next from s zero = refl
 lower-next from s (suc k) = omega (arith, lower-next from s k, counted (getD from k 0) s)
 
 module _ (from to marks : List ℕ) (small : (e : ℕ) → getD to e 0 < 1000) where
+  -- 96 bytes for each edge that leaves s
   edges-most : (s k : ℕ) → length (joined (leaving from to marks s) k) ≤ 96 * leave from s k
   unfolding leave
   edges-most s zero = omega (arith, joined-zero (leaving from to marks s))
@@ -261,6 +284,7 @@ module _ (from to marks : List ℕ) (small : (e : ℕ) → getD to e 0 < 1000) w
       one-most true text l = omega arith
       one-most false text l = omega arith
 
+  -- the state and its edges
   row-most : (s : ℕ) → length (rowText from to marks s) ≤ 8 + length (decimal s) + 96 * leave from s (length from)
   unfolding rowText bytes
   row-most s =
@@ -271,6 +295,7 @@ module _ (from to marks : List ℕ) (small : (e : ℕ) → getD to e 0 < 1000) w
         edges-most s (length from),
       )
 
+  -- all states with their edges
   rows-most : (n : ℕ) → n ≤ mostWritten → length (rowsText from to marks n) ≤ 8 * n + digitsTo n + 96 * lower from n (length from)
   rows-most zero l = omega (arith, joined-zero (rowText from to marks))
   rows-most (suc n) l =
@@ -285,6 +310,7 @@ module _ (from to marks : List ℕ) (small : (e : ℕ) → getD to e 0 < 1000) w
 
 -- ---- the whole text
 
+-- four lines
 head-most : (n start : ℕ) → n < 1000 → start < 1000 → length (headText n start) ≤ 37
 unfolding headText bytes
 head-most n start l h =
@@ -299,6 +325,7 @@ head-most n start l h =
       three start h,
     )
 
+-- two digits and the formula
 acceptance-most : (c : Acceptance) (needs : List ℕ) → wrongCondition c needs ≡ false → length (acceptanceText c needs) ≤ 293
 unfolding acceptanceText bytes
 acceptance-most c needs h =

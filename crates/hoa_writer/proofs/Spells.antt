@@ -1,6 +1,6 @@
 -- Bytes that spell tokens: what stands behind them goes on as if it stood alone. Assumes nothing.
 use mathlib.Core.Path.{_≡_, refl, sym, ap, _∙_}
-use mathlib.Core.Bool.{Bool, true, false, cond, _||_}
+use mathlib.Core.Bool.{Bool, true, false, _||_}
 use mathlib.Core.List.{List, [], _∷_, _++_, map, append-assoc}
 use Prim.Native.Nat.{ℕ, zero, suc, _+_}
 use native.Mathlib.Nat.{add-zero}
@@ -11,8 +11,8 @@ use lib.Seq.{drop-drop, drop-append-seam}
 use Rattle.hoa_tokens.specs.declared.Kind.{Kind}
 use Rattle.hoa_tokens.specs.declared.Kind.the-variants as kind-is
 use Rattle.hoa_tokens.specs.declared.Found.{Found}
-use Rattle.hoa_tokens.specs.Bytes.{isName, isBlank, run}
-use Rattle.hoa_tokens.specs.Token.{Token, finish, Taken, taken, front}
+use Rattle.hoa_tokens.specs.Bytes.{isName, isBlank}
+use Rattle.hoa_tokens.specs.Token.{Token, taken, front}
 use Rattle.hoa_tokens.specs.Stream.{Gap, gap, unclosed, lost, behind, gapOf, Placed, placed, firstOf, first, unlessFinished, some, tokensAt, tokenOf}
 use Rattle.hoa_tokens.proofs.Next.{found-at, token-goes-on}
 
@@ -31,13 +31,16 @@ pub record Spells (q : Bool) (a : List ℕ) (f : List Token → List Token) : Ty
 
 -- ---- one after another
 
+-- what stands behind the bytes
 behind-it : (text : List ℕ) (at : ℕ) (a bs : List ℕ) → drop at text ≡ a ++ bs → drop (at + length a) text ≡ bs
 behind-it text at a bs e = sym (drop-drop (length a) at text) ∙ ap (drop (length a)) e ∙ drop-append-seam a bs
 
+-- no bytes
 pub spells-none : Spells false [] (λ ts. ts)
 spells-none = record { spells = λ text at bs e h. rw (add-zero at) }
 
 module _ {p q : Bool} {a b : List ℕ} {f g : List Token → List Token} where
+  -- one behind another, where the second stands apart
   pub spells-apart : Spells p a f → ((bs : List ℕ) → Apart q bs → Apart p (b ++ bs)) → Spells q b g → Spells q (a ++ b) (λ ts. f (g ts))
   spells-apart s free r = record { spells = both }
     where
@@ -48,11 +51,13 @@ module _ {p q : Bool} {a b : List ℕ} {f g : List Token → List Token} where
           s .spells text at (b ++ bs) e' (free bs h) ∙ ap f (r .spells text (at + length a) bs (behind-it text at a (b ++ bs) e') h)
           ∙ ap (λ (k : ℕ). f (g (tokens text k))) (sym long)
 
+-- one behind another
 pub spells-both : {q : Bool} {a b : List ℕ} {f g : List Token → List Token} → Spells false a f → Spells q b g → Spells q (a ++ b) (λ ts. f (g ts))
 spells-both s r = spells-apart s (λ bs h. tt) r
 
 -- ---- a blank
 
+-- a blank makes the gap one byte longer
 blank-gap : (b : ℕ) (bs : List ℕ) → isBlank b ≡ true → gapOf (b ∷ bs) zero ≡ behind 1 (gapOf bs zero)
 unfolding gapOf
 blank-gap b [] e = rw e
@@ -64,6 +69,7 @@ token-behind at b bs (gap n) = let e : 1 + n ≡ suc n = omega arith in rw e
 token-behind at b bs (unclosed n) = refl
 token-behind at b bs lost = refl
 
+-- and where it ends
 next-behind : (at b : ℕ) (bs : List ℕ) (g : Gap) → firstOf at (b ∷ bs) (behind 1 g) .next ≡ firstOf (at + 1) bs g .next
 next-behind at b bs (gap n) = let e : 1 + n ≡ suc n = omega arith in rw e (omega arith)
 next-behind at b bs (unclosed n) = omega arith
@@ -80,6 +86,7 @@ unfolding tokensAt some
 by-first text at k p q =
     ap (λ (t : Token). goesOn text t (first at (drop at text) .next)) p ∙ ap (goesOn text (first k (drop k text) .token)) q
 
+-- a blank spells nothing
 pub spells-blank : (b : ℕ) → isBlank b ≡ true → Spells false (b ∷ []) (λ ts. ts)
 unfolding first
 spells-blank b e = record { spells = skip }
@@ -93,6 +100,7 @@ spells-blank b e = record { spells = skip }
 
 -- ---- a token
 
+-- no gap before any other byte but `/`
 no-gap : (b : ℕ) (bs : List ℕ) → isBlank b ≡ false → eqb b 47 ≡ false → gapOf (b ∷ bs) zero ≡ gap 0
 unfolding gapOf
 no-gap b [] e f = rw e

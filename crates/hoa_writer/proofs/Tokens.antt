@@ -7,7 +7,7 @@ use native.Mathlib.Nat.{add-zero, zero-add, pow-suc, mul-assoc, div-add-mod, mul
 use native.Mathlib.Omega.{arith}
 use lib.Pow.{pow-pos}
 use lib.Dec.{eqb}
-use lib.ListN.{length, getD, drop, List·getD-eq-default}
+use lib.ListN.{length, getD, List·getD-eq-default}
 use lib.Seq.{drop-length}
 use borrow.Author.Tests.{eq-eqb, ne-eqb, ltb-false}
 use Rattle.marks.specs.Mark.{has, width}
@@ -15,22 +15,22 @@ use Rattle.marks.proofs.Cases.{same, below}
 use Rattle.marks.proofs.Laws.{has-or-not}
 use Rattle.table.specs.declared.Acceptance.{Acceptance}
 use Rattle.table.specs.declared.Acceptance.the-variants.{Buchi, Streett, Rabin}
-use Rattle.table.specs.Table.{Table, lent}
+use Rattle.table.specs.Table.{lent}
 use Rattle.table.specs.Condition.{need, dealt}
 use Rattle.table.specs.Refusal.{used, wrongCondition}
-use Rattle.table.proofs.Sound.{Fit, used-few, rabin-few}
+use Rattle.table.proofs.Sound.{Fit, used-few}
 use Rattle.hoa_tokens.specs.declared.Word.the-variants as word-is
 use Rattle.hoa_tokens.specs.declared.Header.the-variants as header-is
 use Rattle.hoa_tokens.specs.declared.Sign.the-variants as sign-is
 use Rattle.hoa_tokens.specs.Bytes.{bytes}
-use Rattle.hoa_tokens.specs.Token.{Token, int, word, header, sign, body, end, finish, front}
+use Rattle.hoa_tokens.specs.Token.{Token, int, word, header, sign, finish, front}
 use Rattle.hoa_tokens.specs.Stream.{gapOf, first, some, tokensAt}
 use Rattle.job_text.specs.Printed.{decimalIn, decimal}
-use Rattle.hoa_writer.specs.Written.{line, joined, furtherInfs, buchiText, streettPair, furtherStreett, streettText, rabinPair, furtherRabin, rabinText, formula}
-use Rattle.hoa_writer.specs.Written.{markText, marksText, sigText, edgeText, leaving, rowText, rowsText, headText, acceptanceText, hoaText}
+use Rattle.hoa_writer.specs.Written.{line, joined, furtherInfs, buchiText, streettPair, streettText, rabinPair, rabinText, formula}
+use Rattle.hoa_writer.specs.Written.{markText, marksText, sigText, edgeText, rowText, rowsText, headText, acceptanceText, hoaText}
 use Rattle.hoa_writer.specs.Writing.{mostWritten}
-use Rattle.hoa_writer.specs.Tokens.{joinedTokens, atomTokens, infsTokens, buchiTokens, streettPairTokens, streettTokens, rabinPairTokens, rabinTokens, formulaTokens}
-use Rattle.hoa_writer.specs.Tokens.{markTokens, sigTokens, edgeTokens, leavingTokens, rowTokens, writtenTokens}
+use Rattle.hoa_writer.specs.Tokens.{joinedTokens, atomTokens, infsTokens, buchiTokens, streettTokens, rabinTokens, formulaTokens}
+use Rattle.hoa_writer.specs.Tokens.{markTokens, sigTokens, edgeTokens, rowTokens, writtenTokens}
 use Rattle.hoa_writer.proofs.Formulas.{dealt-up}
 use Rattle.hoa_writer.proofs.Sigs.{mark-absent, mark-lowest, mark-further}
 use Rattle.hoa_writer.proofs.Spells.{tokens, Apart, Spells, spells-none, spells-apart, spells-both}
@@ -45,9 +45,11 @@ use Rattle.hoa_writer.proofs.Words.{key-hoa, key-states, key-start, key
 free : {a : List ℕ} {f : List Token → List Token} → Spells false a f → Spells true a f
 free s = record { spells = λ text at bs e h. s .spells text at bs e tt }
 
+-- a line
 spells-line : {q : Bool} {a : List ℕ} {f : List Token → List Token} → Spells q a f → ((bs : List ℕ) → Apart q (10 ∷ bs)) → Spells false (line a) f
 spells-line s apart = spells-apart s (λ bs h. apart bs) spells-newline
 
+-- one after another
 spells-joined : (f : ℕ → List ℕ) (g : ℕ → List Token → List Token) (k : ℕ) → ((i : ℕ) → i < k → Spells false (f i) (g i)) → Spells false (joined f k) (joinedTokens g k)
 unfolding joined joinedTokens
 spells-joined f g zero h = spells-none
@@ -60,9 +62,11 @@ spells-if false s = spells-none
 
 -- ---- the formula
 
+-- the marks behind the first
 infs-spell : (i k : ℕ) → i + k ≤ 32 → Spells false (furtherInfs i k) (infsTokens i k)
 infs-spell i k l = spells-joined _ _ k (λ j h. held-shut key-and-inf (i + j) (omega arith))
 
+-- `Inf(0)&..`, or `t`
 buchi-spells : (k : ℕ) → k ≤ 32 → Spells true (buchiText k) (buchiTokens k)
 unfolding buchiText buchiTokens
 buchi-spells zero l = spells-t
@@ -75,11 +79,13 @@ module _ {key : List ℕ} {f : List Token → List Token} (K : Spells false key 
   unfolding bytes
   streett-pair-spells i l = spells-both (held-shut K (2 * i) (omega arith)) (spells-both (held-shut key-or-inf (2 * i + 1) (omega arith)) spells-shut)
 
+  -- a Rabin pair
   rabin-pair-spells : (d k : ℕ) → d + (1 + k) ≤ 32
       → Spells false (rabinPair key d k) (λ ts. f (int d ∷ (sign sign-is.ParenRight ∷ infsTokens (d + 1) k (sign sign-is.ParenRight ∷ ts))))
   unfolding bytes
   rabin-pair-spells d k l = spells-both (held-shut K d (omega arith)) (spells-both (infs-spell (d + 1) k (omega arith)) spells-shut)
 
+-- `(Fin(0)|Inf(1))&..`, or `t`
 streett-spells : (p : ℕ) → p ≤ 16 → Spells true (streettText p) (streettTokens p)
 unfolding streettText streettTokens
 streett-spells zero l = spells-t
@@ -87,6 +93,7 @@ streett-spells (suc p) l =
     free (spells-both (streett-pair-spells key-pair 0 (omega arith)) (spells-joined _ _ p (λ i h. streett-pair-spells key-and-pair (suc i) (omega arith))))
 
 module _ (needs : List ℕ) where
+  -- `(Fin(0)&Inf(1))|..`, or `f`
   rabin-spells : (p : ℕ) → dealt needs p ≤ 32 → Spells true (rabinText needs p) (rabinTokens needs p)
   unfolding rabinText rabinTokens
   rabin-spells zero l = spells-f
@@ -95,6 +102,7 @@ module _ (needs : List ℕ) where
       (spells-both (rabin-pair-spells key-pair 0 (need needs 0) (omega (arith, dealt-up needs 1 (suc p) (omega arith))))
       (spells-joined _ _ p (λ i h. rabin-pair-spells key-or-pair (dealt needs (suc i)) (need needs (suc i)) (omega (arith, dealt-up needs (suc (suc i)) (suc p) (omega arith))))))
 
+-- every formula
 formula-spells : (c : Acceptance) (needs : List ℕ) → wrongCondition c needs ≡ false → Spells true (formula c needs) (formulaTokens c needs)
 formula-spells (Buchi k) needs h = buchi-spells k (used-few (Buchi k) needs h)
 formula-spells (Streett p) needs h = streett-spells p (ltb-false 16 p h)
@@ -111,6 +119,7 @@ rest-less set k z =
     let half : set / 2 ^ k ≡ 2 * q = ap (λ (x : ℕ). x / 2 ^ k) e ∙ mul-div-right (2 * q) (pow-pos k) in
     (ap (λ (x : ℕ). x % 2 ^ k) e ∙ mul-mod-right (2 ^ k) (2 * q), ap (λ (x : ℕ). x % 2) half ∙ mul-mod-right 2 q)
 
+-- then nothing is written for the marks below k
 none-below : (set k : ℕ) → set % 2 ^ k ≡ 0 → (joined (markText set) k ≡ []) × ((ts : List Token) → joinedTokens (markTokens set) k ts ≡ ts)
 unfolding joined joinedTokens has
 none-below set zero z = (refl, λ ts. refl)
@@ -124,6 +133,7 @@ none-below set (suc k) z =
 spells-same : {q : Bool} {a b : List ℕ} {f g : List Token → List Token} → Spells q a f → a ≡ b → ((ts : List Token) → f ts ≡ g ts) → Spells q b g
 spells-same s e h = rw (sym e) (record { spells = λ text at bs d w. s .spells text at bs d w ∙ h _ })
 
+-- the marks, a blank before each but the lowest
 marks-spell : (set k : ℕ) → k ≤ 32 → Spells true (joined (markText set) k) (joinedTokens (markTokens set) k)
 unfolding joined joinedTokens has bytes
 marks-spell set zero l = free spells-none
@@ -146,6 +156,7 @@ marks-spell set (suc k) l =
     further : (i : ℕ) → Spells true (decimal i) (λ ts. int i ∷ ts) → Spells true (32 ∷ decimal i) (λ ts. int i ∷ ts)
     further i s = spells-both spells-space s
 
+-- the marks between their brackets, or nothing
 sig-spells : (set : ℕ) → Spells false (sigText set) (sigTokens set)
 unfolding sigText sigTokens bytes
 sig-spells set = go (eqb set 0)
@@ -167,23 +178,27 @@ sig-apart set bs h = go (eqb set 0)
 
 -- ---- the rows
 
+-- the line of an edge
 edge-spells : (to set : ℕ) → to < 1000 → Spells false (edgeText to set) (edgeTokens to set)
 unfolding edgeText edgeTokens
 edge-spells to set l =
     spells-line (spells-both key-label (spells-apart (spells-int to (omega arith)) (sig-apart set) (free (sig-spells set)))) apart-newline
 
 module _ (from to marks : List ℕ) (small : (e : ℕ) → getD to e 0 < 1000) where
+  -- a state's line and those of its edges
   row-spells : (s : ℕ) → s < 1000 → Spells false (rowText from to marks s) (rowTokens from to marks s)
   unfolding rowText rowTokens
   row-spells s l =
       spells-both (held-newline key-state s (omega arith))
       (spells-joined _ _ (length from) (λ e h. spells-if (eqb (getD from e 0) s) (edge-spells (getD to e 0) (getD marks e 0) (small e))))
 
+  -- all states
   rows-spell : (n : ℕ) → n ≤ 1000 → Spells false (rowsText from to marks n) (joinedTokens (rowTokens from to marks) n)
   rows-spell n l = spells-joined _ _ n (λ s h. row-spells s (omega arith))
 
 -- ---- the whole text
 
+-- the lines before the condition's
 head-spells : (n start : ℕ) → n < 1000 → start < 1000
     → Spells false (headText n start)
     (λ ts. header header-is.Hoa ∷ (word word-is.V1 ∷ (header header-is.States ∷ (int n ∷ (header header-is.Start ∷ (int start ∷ (header header-is.Ap ∷ (int 0 ∷ ts))))))))
@@ -192,6 +207,7 @@ head-spells n start l h =
     spells-both (spells-both key-hoa (spells-line spells-v1 apart-newline))
     (spells-both (held-newline key-states n (omega arith)) (spells-both (held-newline key-start start (omega arith)) (held-newline key-ap 0 (omega arith))))
 
+-- the condition's line
 acceptance-spells : (c : Acceptance) (needs : List ℕ) → wrongCondition c needs ≡ false
     → Spells false (acceptanceText c needs) (λ ts. header header-is.Acceptance ∷ (int (used c needs) ∷ formulaTokens c needs ts))
 unfolding acceptanceText

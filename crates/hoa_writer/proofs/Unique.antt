@@ -10,6 +10,7 @@ use Rattle.hoa_writer.specs.declared.Written.{Written}
 use Rattle.hoa_writer.specs.Writing.{Writes}
 use Rattle.hoa_writer.proofs.write_hoa.Reads as write-hoa
 
+-- one answer
 pub written-once : OneResult write-hoa.Post
 written-once κ a r s e f p q = p .answer ∙ sym (q .answer)
 

@@ -4,7 +4,7 @@ use mathlib.Core.Bool.{Bool, true, false, cond, _||_}
 use mathlib.Core.List.{List, _++_}
 use Prim.Native.Nat.{ℕ, _+_, _-_, _≤_, _<_}
 use native.Mathlib.Omega.{arith}
-use lib.Dec.{ltb, leb}
+use lib.Dec.{ltb}
 use lib.ListN.{length, take, replicate, length-append}
 use lib.Seq.{sets}
 use borrow.Author.Tests.{lt-ltb, le-ltb, lt-leb, le-leb}
@@ -23,23 +23,28 @@ use Rattle.hoa_writer.specs.inner.{Passed}
 -- ---- the lists of a table that is not refused
 
 module _ (n start : ℕ) (from to marks : List ℕ) (c : Acceptance) (needs : List ℕ) (sound : refusal (lent n start from to marks) c needs ≡ Sound) where
+  -- its lists are as the writer asks
   pub lists-passed : length from ≤ mostWrittenEdges → Passed from to marks
   lists-passed l =
       let fit = sound-fit n start from to marks c needs sound .proper in
       record { to-length = fit .to-length; marks-length = fit .marks-length; few = l; sorted = fit .sorted }
 
+  -- its condition is one that row 4 lets pass
   pub permitted : wrongCondition c needs ≡ false
   permitted = sound-fit n start from to marks c needs sound .condition
 
 -- ---- limits
 
+-- too many states
 pub many-states : (t : Table) → mostWritten < t .states → tooLarge t ≡ true
 many-states t l = ap (λ (b : Bool). b || ltb mostWrittenEdges (t .edges)) (lt-ltb mostWritten (t .states) l)
 
+-- too many edges
 pub many-edges : (t : Table) → t .states ≤ mostWritten → mostWrittenEdges < t .edges → tooLarge t ≡ true
 many-edges t l h =
     ap (λ (b : Bool). b || ltb mostWrittenEdges (t .edges)) (le-ltb mostWritten (t .states) l) ∙ lt-ltb mostWrittenEdges (t .edges) h
 
+-- neither
 pub not-large : (t : Table) → t .states ≤ mostWritten → t .edges ≤ mostWrittenEdges → tooLarge t ≡ false
 not-large t l h =
     ap (λ (b : Bool). b || ltb mostWrittenEdges (t .edges)) (le-ltb mostWritten (t .states) l) ∙ le-ltb mostWrittenEdges (t .edges) h
@@ -47,6 +52,7 @@ not-large t l h =
 -- ---- what is given
 
 module _ (t : Table) (c : Acceptance) (needs out : List ℕ) where
+  -- the refusal decides what is given
   given-by : (f : Finding) → writeRefusal t c needs (length out) ≡ f → Writes t c needs out (outputOf (hoaText t c needs) out f) (writtenOf (hoaText t c needs) f)
   given-by f e = record { answer = ap (writtenOf (hoaText t c needs)) (sym e); output = ap (outputOf (hoaText t c needs) out) (sym e) }
 
@@ -54,6 +60,7 @@ module _ (t : Table) (c : Acceptance) (needs out : List ℕ) where
   then : Bool → Bool → Finding
   then large short = cond large (Refused 42 0) (cond short (Refused 11 0) Sound)
 
+  -- by the two tests behind rows 1 to 7
   decided : (large short : Bool) → refusal t c needs ≡ Sound → tooLarge t ≡ large → ltb (length out) (length (hoaText t c needs)) ≡ short
       → writeRefusal t c needs (length out) ≡ then large short
   unfolding then

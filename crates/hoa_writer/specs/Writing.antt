@@ -16,9 +16,11 @@ use Rattle.hoa_writer.specs.Written.{hoaText}
 
 -- ---- the limits
 
+-- "n above 256"
 abbrev pub mostWritten : ℕ
 mostWritten = 256
 
+-- "m above 512"
 abbrev pub mostWrittenEdges : ℕ
 mostWrittenEdges = 512
 

@@ -16,6 +16,7 @@ use Rattle.hoa_tokens.specs.Bytes.{bytes}
 
 -- ---- pieces
 
+-- a blank
 abbrev pub blank : ℕ
 blank = 32
 
@@ -73,6 +74,7 @@ unfoldable pub rabinText : List ℕ → ℕ → List ℕ
 rabinText needs zero = bytes "f"
 rabinText needs (suc p) = rabinPair (bytes "(Fin(") 0 (need needs 0) ++ furtherRabin needs p
 
+-- the formula of a condition
 abbrev pub formula : Acceptance → List ℕ → List ℕ
 formula (Buchi k) needs = buchiText k
 formula (Streett p) needs = streettText p
@@ -110,6 +112,7 @@ rowsText from to marks n = joined (rowText from to marks) n
 
 -- ---- the whole text
 
+-- "`HOA: v1`, `States: n`, `Start: s`, `AP: 0`"
 unfoldable pub headText : ℕ → ℕ → List ℕ
 headText n start =
     line (bytes "HOA: v1")
@@ -121,6 +124,7 @@ headText n start =
 unfoldable pub acceptanceText : Acceptance → List ℕ → List ℕ
 acceptanceText c needs = line (held (bytes "Acceptance: ") (used c needs) blank ++ formula c needs)
 
+-- "then for each state its edges, then `--END--`"
 unfoldable pub hoaText : Table → Acceptance → List ℕ → List ℕ
 hoaText t c needs =
     headText (t .states) (t .start)

@@ -2,7 +2,7 @@
 // one ended, and one walk finds them all. Relies on the crate `table` for the row of a state and on `marks` for sets of marks.
 ghost use mathlib.Core.Path.{_≡_};
 ghost use Prim.Native.Nat.{_+_, _*_, _^_, _≤_, _<_};
-ghost use lib.ListN.{length, getD};
+ghost use lib.ListN.{length};
 ghost use Rattle.job_text.specs.Printed.{PutFew};
 ghost use Rattle.hoa_writer.specs.Written.{markText, marksText, sigText, edgeText, rowsText};
 ghost use Rattle.hoa_writer.specs.inner.{Passed, edgesText, stateText};

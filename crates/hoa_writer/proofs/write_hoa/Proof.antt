@@ -1,7 +1,7 @@
 -- `write_hoa` meets its contract: what rows 1 to 7 refuse is refused so, and the rest is `write_sound`. Assumes nothing.
 use mathlib.Core.Path.{_≡_, sym, _∙_}
 use denote.Ref.{now}
-use Rattle.table.specs.declared.Finding.the-variants.{Sound, Refused}
+use Rattle.table.specs.declared.Finding.the-variants.{Sound}
 use Rattle.table.specs.Table.{lent}
 use Rattle.hoa_writer.proofs.Writings.{refused-row}
 use borrow.Author.Needs.{needs}

@@ -1,6 +1,6 @@
 -- `body::put_edges` meets its contract: each turn writes one edge more (`joined-more`). The measure is the edges that are left. Assumes nothing.
 use mathlib.Core.Path.{_≡_}
-use Prim.Native.Nat.{ℕ, _+_, _-_, _*_, _≤_, zero-le}
+use Prim.Native.Nat.{_-_, _*_, _≤_, zero-le}
 use denote.Ref.{now}
 use lib.ListN.{length, getD}
 use Rattle.job_text.specs.Printed.{PutFew}

@@ -1,11 +1,9 @@
 -- `body::put_mark` meets its contract: nothing for a mark that the set has not, and a blank before each but the lowest (`Sigs`). Assumes nothing.
-use mathlib.Core.Path.{_≡_, refl, sym, ap, _∙_}
-use mathlib.Core.Bool.{true, false, not, true≢false}
-use Prim.Native.Nat.{ℕ, _*_, _%_, _^_}
+use mathlib.Core.Path.{_≡_, sym, ap, _∙_}
+use mathlib.Core.Bool.{true≢false}
+use Prim.Native.Nat.{ℕ, _%_, _^_}
 use lib.Pow.{pow-pos}
 use borrow.Author.Tests.{not-true, not-false}
-use Rattle.marks.specs.Mark.{has, width}
-use Rattle.hoa_writer.specs.Written.{markText}
 use Rattle.hoa_writer.proofs.Sigs.{shifted, mark-absent, mark-lowest, mark-further}
 use Rattle.hoa_writer.proofs.Few.{few-none, few-word, few-both}
 use native.Mathlib.Omega.{arith}

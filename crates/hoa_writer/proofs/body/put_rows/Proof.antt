@@ -3,7 +3,6 @@
 use mathlib.Core.Path.{_≡_, _∙_, sym}
 use Prim.Native.Nat.{_+_, _-_, _*_, _≤_, zero-le}
 use denote.Ref.{now}
-use lib.ListN.{length}
 use Rattle.table.proofs.Rows.{Begins, first-begins, part-length}
 use Rattle.job_text.specs.Printed.{PutFew}
 use Rattle.hoa_writer.specs.Written.{joined, rowText}

@@ -1,5 +1,4 @@
 -- `body::put_sig` meets its contract: nothing for no marks, else the marks between their brackets. Assumes nothing.
-use mathlib.Core.Path.{_≡_}
 use borrow.Author.Tests.{eq-eqb, ne-eqb}
 use Rattle.hoa_tokens.specs.Bytes.{bytes}
 use Rattle.hoa_writer.specs.Written.{sigText}

@@ -3,7 +3,7 @@ use mathlib.Core.Path.{_≡_, sym, ap, _∙_}
 use mathlib.Core.Bool.{Bool, cond}
 use Rattle.hoa_tokens.specs.Bytes.{bytes}
 use Rattle.table.specs.Refusal.{used}
-use Rattle.hoa_writer.specs.Written.{acceptanceText, formula}
+use Rattle.hoa_writer.specs.Written.{acceptanceText}
 use Rattle.hoa_writer.proofs.Few.{few-word, few-both}
 use native.Mathlib.Omega.{arith}
 use borrow.Author.Needs.{needs}

@@ -1,7 +1,7 @@
 -- `formula::put_infs` meets its contract: each turn writes one mark more (`joined-more`), in at most 16 bytes. The measure is the marks that are left.
 -- Assumes nothing.
 use mathlib.Core.Path.{_≡_}
-use Prim.Native.Nat.{suc, _+_, _-_, _*_, _≤_, zero-le}
+use Prim.Native.Nat.{_+_, _-_, _*_, _≤_, zero-le}
 use Rattle.hoa_tokens.specs.Bytes.{bytes}
 use Rattle.job_text.specs.Printed.{PutFew}
 use Rattle.hoa_writer.specs.Written.{held, close, furtherInfs}

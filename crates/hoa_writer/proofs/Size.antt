@@ -1,5 +1,5 @@
 -- How long a text is at most: 52,205 bytes (docs/RULES.md, "The Hanoi format", the writer). Each number is counted with its digits. Assumes nothing.
-use mathlib.Core.Path.{_≡_, refl, ap}
+use mathlib.Core.Path.{_≡_, refl, ap, _∙_}
 use mathlib.Core.Bool.{Bool, true, false, cond}
 use mathlib.Core.List.{List, [], _∷_, _++_}
 use Prim.Native.Nat.{ℕ, zero, suc, _+_, _-_, _*_, _/_, _%_, _^_, _≤_, _<_}
@@ -13,15 +13,18 @@ use Rattle.table.specs.declared.Acceptance.{Acceptance}
 use Rattle.table.specs.declared.Acceptance.the-variants.{Buchi, Streett, Rabin}
 use Rattle.table.specs.Table.{lent}
 use Rattle.table.specs.Condition.{need, dealt}
-use Rattle.table.specs.Refusal.{used, wrongCondition}
-use Rattle.table.proofs.Sound.{Fit, used-few, rabin-few}
+use Rattle.table.specs.declared.Finding.{Finding}
+use Rattle.table.specs.declared.Finding.the-variants.{Sound, Refused}
+use Rattle.table.specs.Refusal.{used, refusal, wrongCondition}
+use Rattle.table.proofs.Sound.{Fit, sound-fit, used-few, rabin-few}
 use Rattle.job_text.specs.Printed.{decimal}
 use Rattle.job_text.proofs.Puts.{digits-few}
 use Rattle.hoa_tokens.specs.Bytes.{bytes}
 use Rattle.hoa_writer.specs.Written.{line, held, close, joined, furtherInfs, buchiText, streettPair, furtherStreett, streettText, rabinPair, furtherRabin, rabinText, formula}
 use Rattle.hoa_writer.specs.Written.{markText, marksText, sigText, edgeText, leaving, rowText, rowsText, headText, acceptanceText, hoaText}
 use Rattle.hoa_writer.proofs.Formulas.{dealt-up}
-use Rattle.hoa_writer.specs.Writing.{mostWritten, mostWrittenEdges, mostBytes}
+use Rattle.hoa_writer.specs.Writing.{mostWritten, mostWrittenEdges, mostBytes, tooLarge, orElse, writeRefusal}
+use Rattle.hoa_writer.proofs.Writings.{not-large}
 
 -- ---- numbers
 
@@ -362,3 +365,14 @@ most-bytes n start from to marks c needs fit l h =
     small e =
         below e (length from) (λ s. omega (arith, fit .proper .to-below e s))
         (λ s. rw (List·getD-eq-default to 0 {n = e} (omega (arith, fit .proper .to-length))) (omega arith))
+
+-- so no table that is written is refused for want of room where the output has so many bytes
+pub room-enough : (n start : ℕ) (from to marks : List ℕ) (c : Acceptance) (needs : List ℕ) → refusal (lent n start from to marks) c needs ≡ Sound
+    → n ≤ mostWritten → length from ≤ mostWrittenEdges → (room : ℕ) → mostBytes ≤ room → writeRefusal (lent n start from to marks) c needs room ≡ Sound
+room-enough n start from to marks c needs sound l h room enough =
+    let t = lent n start from to marks in
+    let text = hoaText t c needs in
+    let long = most-bytes n start from to marks c needs (sound-fit n start from to marks c needs sound) l h in
+    ap (λ (f : Finding). orElse f (cond (tooLarge t) (Refused 42 0) (cond (ltb room (length text)) (Refused 11 0) Sound))) sound
+    ∙ ap (λ (b : Bool). cond b (Refused 42 0) (cond (ltb room (length text)) (Refused 11 0) Sound)) (not-large t l h)
+    ∙ ap (λ (b : Bool). cond b (Refused 11 0) Sound) (le-ltb room (length text) (omega arith))

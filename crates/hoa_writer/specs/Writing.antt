@@ -24,7 +24,7 @@ mostWritten = 256
 abbrev pub mostWrittenEdges : ℕ
 mostWrittenEdges = 512
 
--- a buffer of this many bytes is long enough for every text (`Size.most-bytes`, in proofs/)
+-- a buffer of this many bytes is long enough for every text (`Size.most-bytes` and `Size.room-enough`, in proofs/)
 abbrev pub mostBytes : ℕ
 mostBytes = 52205
 

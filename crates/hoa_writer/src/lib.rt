@@ -22,6 +22,9 @@ pub const MOST_STATES: u32 = 256;
 
 pub const MOST_EDGES: usize = 512;
 
+// An output of this many bytes is long enough for every text. specs/Writing.antt has the same number, as `mostBytes`.
+pub const MOST_BYTES: usize = 52205;
+
 // What writing gives: the text's length, or the number and the place of the first cause to refuse.
 pub enum Written {
     Text { length: usize },

@@ -6,18 +6,20 @@ use Rattle.hoa_tokens.specs.declared.Word.the-variants as word-is
 use Rattle.hoa_tokens.specs.declared.Header.the-variants as header-is
 use Rattle.hoa_tokens.specs.declared.Sign.the-variants as sign-is
 use Rattle.hoa_tokens.specs.Bytes.{bytes, same, isDigit, isCapital, isLetter, isName, isBlank, run}
-use Rattle.hoa_tokens.specs.Token.{Token, int, word, header, str, aname, sign, body, end, abort, finish, bad}
+use Rattle.hoa_tokens.specs.Token.{Token, int, word, header, str, aname, sign, body, finish, bad}
 use Rattle.hoa_tokens.specs.Token.{wordOf, furtherHeader, headerOf, spelt, isInt, number, named, quoted, at, fixed, signOf, front}
-use Rattle.hoa_tokens.specs.Stream.{gapOf, Placed, placed, first, some, tokensAt}
+use Rattle.hoa_tokens.specs.Stream.{gapOf, Placed, first, some, tokensAt}
 
 -- the tokens of a text, without where they end
 abbrev pub seen : List Placed → List (ℕ × Token)
 seen [] = []
 seen (p ∷ ps) = (p .place, p .token) ∷ seen ps
 
+-- the text has these tokens, at these places
 abbrev says : List ℕ → List (ℕ × Token) → Type 0
 says text ts = seen (tokensAt text 0) ≡ ts
 
+-- the examples
 pub record Examples : Type 0 where
   -- an empty text has its end
   pub empty : says [] ((0, finish) ∷ [])
@@ -49,6 +51,7 @@ pub record Examples : Type 0 where
   -- "a form feed"
   pub form-feed : says (12 ∷ 13 ∷ []) ((0, bad) ∷ (2, finish) ∷ [])
 
+-- each computes
 pub examples : Examples
 unfolding tokensAt some first gapOf isBlank front isDigit isCapital isLetter isName run number isInt spelt named wordOf headerOf furtherHeader quoted at fixed signOf bytes same
 examples =

@@ -1,7 +1,7 @@
 -- The tokens of a text from a place on: the one that is found there, and those behind it (`tokens-next`). Each token but the text's end takes a byte
 -- (`token-takes`), and only the text's end is an end (`token-ends`). So fuel does not matter. Assumes nothing.
 use mathlib.Core.Path.{_≡_, refl, sym, ap, _∙_}
-use mathlib.Core.Bool.{Bool, true, false, false≢true}
+use mathlib.Core.Bool.{false, false≢true}
 use mathlib.Core.List.{List, [], _∷_}
 use Prim.Native.Nat.{ℕ, zero, suc, _+_, _-_, _≤_, _<_}
 use native.Mathlib.Omega.{arith}
@@ -18,6 +18,7 @@ pub data Stands (at k : ℕ) (p : Placed) : Type 0 where
   over : p .token ≡ finish → p .place ≡ at + k → p .next ≡ at + k → Stands at k p
   there : ends (p .token) ≡ false → at ≤ p .place → p .place < p .next → p .next ≤ at + k → Stands at k p
 
+-- behind a gap
 behind-gap : (at n k : ℕ) (rest : List ℕ) → n + length rest ≡ k → Stands at k (placed (at + n) (at + n + front rest .size) (front rest .token))
 unfolding front
 behind-gap at n k [] e = over refl (omega arith) (omega arith)
@@ -25,11 +26,13 @@ behind-gap at n k (b ∷ rest) e =
     let t = front-takes b rest in
     there (t .token) (omega arith) (omega (arith, t .some)) (omega (arith, t .most))
 
+-- by the gap
 gap-stands : (at : ℕ) (bs : List ℕ) (g : Gap) → GapIn (length bs) 0 g → Stands at (length bs) (firstOf at bs g)
 gap-stands at bs (gap n) h = behind-gap at n (length bs) (drop n bs) (omega (arith, length-drop n bs))
 gap-stands at bs (unclosed n) h = there refl (omega arith) (omega arith) (omega arith)
 gap-stands at bs lost h = absurd (omega arith)
 
+-- where the first token of bytes stands
 pub stands : (at : ℕ) (bs : List ℕ) → Stands at (length bs) (first at bs)
 unfolding first
 stands at bs = gap-stands at bs (gapOf bs zero) (gap-in bs zero)
@@ -64,6 +67,7 @@ tokens-next text at f h =
 
 -- ---- what a token takes
 
+-- only the kind `Finish` is the end
 finish-kind : (text : List ℕ) (a b : ℕ) (k : Kind) → tokenOf text a b k ≡ finish → k ≡ kind-is.Finish
 finish-kind text a b (kind-is.Int n) e = cc
 finish-kind text a b (kind-is.Word w) e = cc
@@ -97,6 +101,7 @@ pub record Moves (text : List ℕ) (at : ℕ) (f : Found) : Type 0 where
   pub takes : f .first < f .next
   pub within : f .next ≤ length text
 
+-- so a reader that goes on to `next` comes to the end
 pub token-takes : (text : List ℕ) (at : ℕ) (f : Found) → TokenAt text at f → (f .kind ≡ kind-is.Finish → ⊥) → Moves text at f
 token-takes text at f h n = go (found-stands text at f h)
   where
@@ -104,6 +109,7 @@ token-takes text at f h n = go (found-stands text at f h)
     go (over e _ _) = absurd (n (finish-kind text (f .first) (f .next) (f .kind) e))
     go (there _ a b c) = record { behind-at = a; takes = b; within = omega (arith, length-drop at text) }
 
+-- nothing is cut off behind another token
 unfinished : (t : Token) (ps : List Placed) → ends t ≡ false → unlessFinished t ps ≡ ps
 unfinished finish ps e = absurd (false≢true (sym e))
 unfinished (int n) ps e = refl

@@ -1,13 +1,13 @@
 -- What digits spell. Assumes nothing.
-use mathlib.Core.Path.{_≡_, refl, sym, ap, _∙_}
-use mathlib.Core.Bool.{Bool, true, false, cond, not, _&&_, _||_}
+use mathlib.Core.Path.{_≡_, refl}
+use mathlib.Core.Bool.{Bool, true, false, _||_}
 use mathlib.Core.List.{List, [], _∷_}
-use Prim.Native.Nat.{ℕ, suc, _+_, _-_, _*_, _≤_, _<_}
+use Prim.Native.Nat.{ℕ, _+_, _-_, _*_, _≤_, _<_}
 use native.Mathlib.Omega.{arith}
-use lib.Dec.{eqb, ltb}
+use lib.Dec.{eqb}
 use lib.ListN.{length, getD, drop, drop-of-length-le}
 use borrow.Author.Tests.{eq-eqb, ne-eqb, lt-ltb, le-ltb}
-use Rattle.hoa_tokens.specs.Token.{Token, int, bad, intLimit, spelt, isInt, digits}
+use Rattle.hoa_tokens.specs.Token.{int, bad, intLimit, spelt, isInt, digits}
 use Rattle.hoa_tokens.specs.inner.Reads.{ofValue}
 use Rattle.hoa_tokens.proofs.Runs.{here}
 
@@ -27,6 +27,7 @@ unfolding spelt
 too-large n [] l = rw (le-ltb n intLimit l)
 too-large n (b ∷ ds) l = too-large (n * 10 + (b - 48)) ds (omega arith)
 
+-- a value below the limit
 pub small-enough : (n : ℕ) → n < intLimit → ofValue n ≡ int n
 small-enough n l = rw (lt-ltb n intLimit l)
 

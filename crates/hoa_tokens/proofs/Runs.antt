@@ -1,12 +1,12 @@
 -- Classes of bytes, runs and the same bytes, at a place of a text. Assumes nothing.
-use mathlib.Core.Path.{_≡_, refl, sym, ap, _∙_}
+use mathlib.Core.Path.{_≡_, refl, ap, _∙_}
 use mathlib.Core.Bool.{Bool, true, false, _&&_, _||_}
 use mathlib.Core.List.{List, [], _∷_}
-use Prim.Native.Nat.{ℕ, suc, _+_, _-_, _≤_, _<_}
+use Prim.Native.Nat.{ℕ, suc, _+_, _≤_, _<_}
 use native.Mathlib.Numerals.{add-one}
 use native.Mathlib.Omega.{arith}
 use lib.Dec.{eqb, leb}
-use lib.ListN.{length, getD, take, drop, drop-of-length-le, length-drop}
+use lib.ListN.{length, getD, drop, drop-of-length-le, length-drop}
 use lib.Seq.{drop-cons, drop-drop, getD-drop}
 use borrow.Author.Tests.{eq-eqb, ne-eqb, le-leb, lt-leb}
 use Rattle.hoa_tokens.specs.Bytes.{between, isCapital, isLetter, same, run}
@@ -19,6 +19,7 @@ use Rattle.hoa_tokens.proofs.Sizes.{byTest, run-le}
 pub under : (low high b : ℕ) → b < low → between low high b ≡ false
 under low high b l = rw (lt-leb low b l)
 
+-- from `low` on only `high` counts
 pub from : (low high b : ℕ) → low ≤ b → between low high b ≡ leb b high
 from low high b l = rw (le-leb low b l)
 
@@ -42,6 +43,7 @@ module _ (text : List ℕ) (i : ℕ) (l : i < length text) where
 pub second : (text : List ℕ) (i : ℕ) → getD (drop (i + 1) text) 0 0 ≡ getD text (i + 1) 0
 second text i = getD-drop (i + 1) text 0 0 ∙ ap (λ (k : ℕ). getD text k 0) (omega arith)
 
+-- the bytes behind the second
 pub behind-second : (text : List ℕ) (i : ℕ) → drop 1 (drop (i + 1) text) ≡ drop (i + 2) text
 behind-second text i =
     let e : i + 1 + 1 ≡ i + 2 = omega arith in
@@ -58,6 +60,7 @@ module _ (class : ℕ → Bool) (text : List ℕ) (at : ℕ) where
   pub going : Going at
   going = record { low = omega arith; same = refl }
 
+  -- a run ends within the text
   high : (r : ℕ) → r ≡ at + run class (drop at text) → at ≤ length text → r ≤ length text
   high r e l = omega (arith, run-le class (drop at text), length-drop at text)
 
@@ -87,6 +90,7 @@ module _ (class : ℕ → Bool) (text : List ℕ) (at : ℕ) where
 
 -- ---- the same bytes
 
+-- byte by byte
 same-step : (xs ys : List ℕ) (i : ℕ) → i < length xs → i < length ys
     → same (drop i xs) (drop i ys) ≡ (eqb (getD xs i 0) (getD ys i 0) && same (drop (i + 1) xs) (drop (i + 1) ys))
 unfolding same
@@ -97,10 +101,12 @@ pub same-more : (xs ys : List ℕ) (i : ℕ) → i < length xs → i < length ys
     → same (drop i xs) (drop i ys) ≡ same (drop (i + 1) xs) (drop (i + 1) ys)
 same-more xs ys i l k e = same-step xs ys i l k ∙ rw (eq-eqb (getD xs i 0) (getD ys i 0) e)
 
+-- another byte at i
 pub same-other : (xs ys : List ℕ) (i : ℕ) → i < length xs → i < length ys → (getD xs i 0 ≡ getD ys i 0 → ⊥)
     → same (drop i xs) (drop i ys) ≡ false
 same-other xs ys i l k e = same-step xs ys i l k ∙ rw (ne-eqb (getD xs i 0) (getD ys i 0) e)
 
+-- all bytes were the same
 pub same-end : (xs ys : List ℕ) (i : ℕ) → length xs ≤ i → length ys ≤ i → same (drop i xs) (drop i ys) ≡ true
 unfolding same
 same-end xs ys i l k = rw (drop-of-length-le xs l, drop-of-length-le ys k)

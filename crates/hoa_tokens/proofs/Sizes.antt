@@ -1,18 +1,17 @@
 -- How many bytes a gap and a token take: never more than there are, and each token but the text's end takes one. Assumes nothing.
-use mathlib.Core.Path.{_≡_, refl, ap, _∙_}
-use mathlib.Core.Bool.{Bool, true, false, false≢true, cond, _&&_, _||_}
+use mathlib.Core.Path.{_≡_, refl, ap}
+use mathlib.Core.Bool.{Bool, true, false, false≢true, _&&_}
 use mathlib.Core.List.{List, [], _∷_}
 use mathlib.Core.Option.{Option, some, none}
-use Prim.Native.Nat.{ℕ, zero, suc, _+_, _-_, _≤_, _<_, zero-le, suc-le-suc}
-use native.Mathlib.Nat.{le-of-suc-le-suc}
+use Prim.Native.Nat.{ℕ, zero, suc, _≤_, _<_, zero-le, suc-le-suc}
 use native.Mathlib.Omega.{arith}
 use lib.Dec.{eqb}
-use lib.ListN.{length, getD, take, drop, length-take, List·getD-eq-default}
-use borrow.Author.Tests.{eq-eqb, ne-eqb, eqb-true, eqb-false}
+use lib.ListN.{length, getD, take, length-take}
+use borrow.Author.Tests.{eqb-true}
 use Rattle.hoa_tokens.specs.declared.Sign.{Sign}
-use Rattle.hoa_tokens.specs.Bytes.{bytes, same, isDigit, isCapital, isLetter, isName, isBlank, run}
+use Rattle.hoa_tokens.specs.Bytes.{bytes, same, isDigit, isLetter, isName, isBlank, run}
 use Rattle.hoa_tokens.specs.Token.{Token, int, word, header, str, aname, sign, body, end, abort, finish, bad, Taken, taken}
-use Rattle.hoa_tokens.specs.Token.{isInt, spelt, digits, number, named, later, quoted, closed, at, begins, fixed, signOf, single, front}
+use Rattle.hoa_tokens.specs.Token.{isInt, digits, number, named, later, quoted, closed, at, begins, fixed, signOf, single, front}
 use Rattle.hoa_tokens.specs.Stream.{Gap, gap, unclosed, lost, behind, opened, gapOf}
 
 -- by a test's outcome
@@ -40,11 +39,13 @@ behind-two k d e (gap n) h = omega arith
 behind-two k d e (unclosed n) h = omega arith
 behind-two k d e lost h = omega arith
 
+-- a comment in front
 opened-in : (k : ℕ) (g : Gap) → GapIn k 1 g → GapIn (suc (suc k)) 0 (opened g)
 opened-in k (gap n) h = omega arith
 opened-in k (unclosed n) h = omega arith
 opened-in k lost h = omega arith
 
+-- a gap takes no more bytes than there are
 pub gap-in : (bs : List ℕ) (d : ℕ) → GapIn (length bs) d (gapOf bs d)
 unfolding gapOf
 gap-in [] zero = zero-le
@@ -62,6 +63,7 @@ gap-in (b ∷ (c ∷ bs)) (suc d) =
 
 -- ---- runs and texts
 
+-- a run takes no more bytes than there are
 pub run-le : (class : ℕ → Bool) (bs : List ℕ) → run class bs ≤ length bs
 unfolding run
 run-le class [] = zero-le
@@ -72,10 +74,12 @@ pub run-some : (class : ℕ → Bool) (b : ℕ) (bs : List ℕ) → class b ≡ 
 unfolding run
 run-some class b bs e = rw e
 
+-- a word may go on with a letter
 pub letter-name : (b : ℕ) → isLetter b ≡ true → isName b ≡ true
 unfolding isName
 letter-name b e = rw e
 
+-- the same bytes are equally many
 pub same-length : (xs ys : List ℕ) → same xs ys ≡ true → length xs ≡ length ys
 unfolding same
 same-length [] [] e = refl
@@ -83,6 +87,7 @@ same-length [] (y ∷ ys) e = absurd (false≢true e)
 same-length (x ∷ xs) [] e = absurd (false≢true e)
 same-length (x ∷ xs) (y ∷ ys) e = byTest (eqb x y) (λ q. ap suc (same-length xs ys (rw q at e))) (λ q. absurd (false≢true (rw q at e)))
 
+-- a key that stands in front is not longer than the bytes
 pub begins-le : (key bs : List ℕ) → begins key bs ≡ true → length key ≤ length bs
 begins-le key bs e = omega (arith, same-length _ _ e, length-take (length key) bs)
 
@@ -99,14 +104,17 @@ abbrev pub QuoteIn : ℕ → Option ℕ → Type 0
 QuoteIn k none = Unit
 QuoteIn k (some n) = n < k
 
+-- a byte more
 later-one : (k : ℕ) (o : Option ℕ) → QuoteIn k o → QuoteIn (suc k) (later 1 o)
 later-one k none h = tt
 later-one k (some n) h = omega arith
 
+-- two bytes more
 later-two : (k : ℕ) (o : Option ℕ) → QuoteIn k o → QuoteIn (suc (suc k)) (later 2 o)
 later-two k none h = tt
 later-two k (some n) h = omega arith
 
+-- so it is
 pub quote-in : (bs : List ℕ) → QuoteIn (length bs) (quoted bs)
 unfolding quoted
 quote-in [] = tt
@@ -137,16 +145,20 @@ pub record Takes (k : ℕ) (t : Taken) : Type 0 where
   pub most : t .size ≤ k
   pub token : ends (t .token) ≡ false
 
+-- by its parts
 takes : (k n : ℕ) (t : Token) → 0 < n → n ≤ k → ends t ≡ false → Takes k (taken t n)
 takes k n t l h e = record { some = l; most = h; token = e }
 
+-- digits are not the text's end
 digits-token : (ds : List ℕ) → ends (digits ds) ≡ false
 digits-token ds = byTest (isInt ds) (λ e. rw e) (λ e. rw e)
 
+-- each form takes a byte, and no more than there are
 number-takes : (b : ℕ) (bs : List ℕ) → isDigit b ≡ true → Takes (length (b ∷ bs)) (number (b ∷ bs))
 unfolding number
 number-takes b bs e = takes _ _ _ (omega (arith, run-some isDigit b bs e)) (run-le isDigit (b ∷ bs)) (digits-token (take (run isDigit (b ∷ bs)) (b ∷ bs)))
 
+-- `:` is not 0
 not-both : (b : ℕ) → b ≡ 0 → eqb b 58 ≡ true → ⊥
 not-both b z e = omega (arith, eqb-true b 58 e)
 

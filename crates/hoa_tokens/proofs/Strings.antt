@@ -1,6 +1,6 @@
 -- The closing quote of a string behind a place of a text. Assumes nothing.
-use mathlib.Core.Path.{_≡_, refl, sym, ap, _∙_}
-use mathlib.Core.Bool.{Bool, true, false, cond}
+use mathlib.Core.Path.{_≡_, refl, ap, _∙_}
+use mathlib.Core.Bool.{cond}
 use mathlib.Core.List.{List, [], _∷_}
 use mathlib.Core.Option.{Option, some, none}
 use Prim.Native.Nat.{ℕ, _+_, _≤_, _<_}
@@ -12,6 +12,7 @@ use Rattle.hoa_tokens.specs.Token.{later, quoted}
 use Rattle.hoa_tokens.proofs.Sizes.{byTest}
 use Rattle.hoa_tokens.proofs.Runs.{here, behind-second}
 
+-- behind two stretches
 later-add : (i k n : ℕ) (o : Option ℕ) → n ≡ i + k → later i (later k o) ≡ later n o
 later-add i k n none e = refl
 later-add i k n (some m) e = ap some (omega arith)
@@ -23,6 +24,7 @@ quoted-rule b [] = byTest (eqb b 34) (λ e. rw e) (λ e. byTest (eqb b 92) (λ q
 quoted-rule b (c ∷ bs) = refl
 
 module _ (text : List ℕ) (i : ℕ) (l : i < length text) where
+  -- the rule at a place
   quoted-at : quoted (drop i text)
       ≡ cond (eqb (getD text i 0) 34) (some 0) (cond (eqb (getD text i 0) 92) (later 2 (quoted (drop (i + 2) text))) (later 1 (quoted (drop (i + 1) text))))
   quoted-at = rw (here text i l) (quoted-rule (getD text i 0) (drop (i + 1) text) ∙ rw (behind-second text i))

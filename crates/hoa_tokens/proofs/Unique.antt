@@ -6,7 +6,7 @@ use Rattle.hoa_tokens.specs.declared.Kind.{Kind}
 use Rattle.hoa_tokens.specs.declared.Kind.the-variants as kind-is
 use Rattle.hoa_tokens.specs.declared.Found.{Found}
 use Rattle.hoa_tokens.specs.Token.{Token, int, word, header, str, aname, sign, body, end, abort, finish, bad}
-use Rattle.hoa_tokens.specs.Stream.{placed, tokenOf, TokenAt}
+use Rattle.hoa_tokens.specs.Stream.{tokenOf, TokenAt}
 
 -- the kind of a token
 kindOf : Token → Kind
@@ -22,6 +22,7 @@ kindOf abort = kind-is.Abort
 kindOf finish = kind-is.Finish
 kindOf bad = kind-is.Bad
 
+-- a token tells its kind
 kind-again : (text : List ℕ) (a b : ℕ) (k : Kind) → kindOf (tokenOf text a b k) ≡ k
 unfolding kindOf
 kind-again text a b (kind-is.Int n) = refl
@@ -36,6 +37,7 @@ kind-again text a b kind-is.Abort = refl
 kind-again text a b kind-is.Finish = refl
 kind-again text a b kind-is.Bad = refl
 
+-- so the two are equal
 pub one-token : (text : List ℕ) (at : ℕ) (f g : Found) → TokenAt text at f → TokenAt text at g → f ≡ g
 one-token text at f g h k =
     let e = sym (h .is) ∙ k .is in

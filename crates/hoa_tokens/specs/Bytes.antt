@@ -18,6 +18,7 @@ same [] (b ∷ bs) = false
 same (a ∷ xs) [] = false
 same (a ∷ xs) (b ∷ bs) = eqb a b && same xs bs
 
+-- a byte from low to high
 abbrev pub between : ℕ → ℕ → ℕ → Bool
 between low high b = leb low b && leb b high
 

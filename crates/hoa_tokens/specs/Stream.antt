@@ -9,10 +9,11 @@ use Rattle.hoa_tokens.specs.declared.Kind.{Kind}
 use Rattle.hoa_tokens.specs.declared.Kind.the-variants as kind-is
 use Rattle.hoa_tokens.specs.declared.Found.{Found}
 use Rattle.hoa_tokens.specs.Bytes.{isBlank}
-use Rattle.hoa_tokens.specs.Token.{Token, int, word, header, str, aname, sign, body, end, abort, finish, bad, Taken, front}
+use Rattle.hoa_tokens.specs.Token.{Token, int, word, header, str, aname, sign, body, end, abort, finish, bad, front}
 
 -- ---- what stands between tokens
 
+-- blanks and comments in front of bytes
 pub data Gap : Type 0 where
   -- so many bytes of blanks and comments stand in front
   gap : ℕ → Gap
@@ -55,9 +56,11 @@ pub record Placed : Type 0 where
   pub next : ℕ
   pub token : Token
 
+-- a token and its places
 abbrev pub placed : ℕ → ℕ → Token → Placed
 placed p q t = record { place = p; next = q; token = t }
 
+-- what stands behind a gap
 abbrev pub firstOf : ℕ → List ℕ → Gap → Placed
 firstOf at bs (gap n) = placed (at + n) (at + n + front (drop n bs) .size) (front (drop n bs) .token)
 firstOf at bs (unclosed n) = placed (at + n) (at + length bs) bad

@@ -4,7 +4,7 @@ use mathlib.Core.List.{List, [], _∷_}
 use mathlib.Core.Option.{Option, some, none}
 use Prim.Native.Nat.{ℕ, suc, _+_, _-_, _*_, _^_}
 use lib.Dec.{eqb, ltb}
-use lib.ListN.{length, take, drop, getD}
+use lib.ListN.{length, take, getD}
 use Rattle.hoa_tokens.specs.declared.Word.{Word}
 use Rattle.hoa_tokens.specs.declared.Word.the-variants as word-is
 use Rattle.hoa_tokens.specs.declared.Header.{Header}
@@ -13,6 +13,7 @@ use Rattle.hoa_tokens.specs.declared.Sign.{Sign}
 use Rattle.hoa_tokens.specs.declared.Sign.the-variants as sign-is
 use Rattle.hoa_tokens.specs.Bytes.{bytes, same, isDigit, isCapital, isLetter, isName, run}
 
+-- the tokens
 pub data Token : Type 0 where
   -- INT, with its value
   int : ℕ → Token
@@ -38,6 +39,7 @@ pub record Taken : Type 0 where
   pub token : Token
   pub size : ℕ
 
+-- a token of so many bytes
 abbrev pub taken : Token → ℕ → Taken
 taken t k = record { token = t; size = k }
 
@@ -48,6 +50,7 @@ abbrev pub among : {A : Type 0} → List ℕ → List (List ℕ × A) → A → 
 among bs [] other = other
 among bs (k ∷ ks) other = cond (same bs (k .0)) (k .1) (among bs ks other)
 
+-- the word with this text
 unfoldable pub wordOf : List ℕ → Word
 wordOf bs =
     among
@@ -113,6 +116,7 @@ isInt bs = (eqb (length bs) 1 || not (eqb (getD bs 0 0) 48)) && ltb (spelt 0 bs)
 abbrev pub digits : List ℕ → Token
 digits ds = cond (isInt ds) (int (spelt 0 ds)) bad
 
+-- the whole run of digits
 unfoldable pub number : List ℕ → Taken
 number bs = taken (digits (take (run isDigit bs) bs)) (run isDigit bs)
 

@@ -1,7 +1,6 @@
 // Strings. Relies on nothing.
 use crate::Found;
 use crate::Kind;
-ghost use mathlib.Core.Path.{_≡_};
 ghost use Prim.Native.Nat.{_+_, _<_};
 ghost use lib.ListN.{length, drop};
 ghost use Rattle.hoa_tokens.specs.Token.{quoted, closed};

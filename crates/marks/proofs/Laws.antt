@@ -13,10 +13,10 @@ use Rattle.marks.proofs.Cases.{same, below}
 
 -- ---- one mark of a set, as a digit
 
-or-digit : (a b i : ℕ) → bitOr a b / 2 ^ i % 2 ≡ max (a / 2 ^ i % 2) (b / 2 ^ i % 2)
+pub or-digit : (a b i : ℕ) → bitOr a b / 2 ^ i % 2 ≡ max (a / 2 ^ i % 2) (b / 2 ^ i % 2)
 or-digit a b i = rw (or-shr a b i) (omega (arith, or-step (a / 2 ^ i) (b / 2 ^ i)))
 
-and-digit : (a b i : ℕ) → bitAnd a b / 2 ^ i % 2 ≡ min (a / 2 ^ i % 2) (b / 2 ^ i % 2)
+pub and-digit : (a b i : ℕ) → bitAnd a b / 2 ^ i % 2 ≡ min (a / 2 ^ i % 2) (b / 2 ^ i % 2)
 and-digit a b i = rw (and-shr a b i) (omega (arith, and-step (a / 2 ^ i) (b / 2 ^ i)))
 
 odd-differ : (x y : ℕ) → x < 2 → y < 2 → differ x y ≡ (x + y) % 2
@@ -26,12 +26,12 @@ odd-differ (suc zero) (suc zero) hx hy = refl
 odd-differ (suc zero) (suc (suc y)) hx hy = absurd (omega arith)
 odd-differ (suc (suc x)) y hx hy = absurd (omega arith)
 
-xor-digit : (a b i : ℕ) → bitXor a b / 2 ^ i % 2 ≡ (a / 2 ^ i % 2 + b / 2 ^ i % 2) % 2
+pub xor-digit : (a b i : ℕ) → bitXor a b / 2 ^ i % 2 ≡ (a / 2 ^ i % 2 + b / 2 ^ i % 2) % 2
 xor-digit a b i =
     let d = odd-differ (a / 2 ^ i % 2) (b / 2 ^ i % 2) (omega arith) (omega arith) in
     rw (xor-shr a b i) (omega (arith, xor-step (a / 2 ^ i) (b / 2 ^ i), d))
 
-half-digit : (x i : ℕ) → x / 2 / 2 ^ i % 2 ≡ x / 2 ^ suc i % 2
+pub half-digit : (x i : ℕ) → x / 2 / 2 ^ i % 2 ≡ x / 2 ^ suc i % 2
 half-digit x i = ap (λ (y : ℕ). y % 2) (shr-shr x 1 i ∙ ap (λ (j : ℕ). x / 2 ^ j) (one-add i))
 
 low-digit : (x : ℕ) → x / 2 ^ 0 % 2 ≡ x % 2

@@ -25,6 +25,7 @@ use Rattle.hoa_tokens.specs.Stream.{Gap, gap, unclosed, lost, behind, ga
 
 -- ---- runs
 
+-- the bytes of a class
 abbrev pub inClass : Class → ℕ → Bool
 inClass class-is.Digits b = isDigit b
 inClass class-is.Names b = isName b
@@ -81,10 +82,11 @@ pub record Past (text : List ℕ) (i r : ℕ) : Type 0 where
 abbrev pub stand : List ℕ → ℕ → ℕ → ℕ → Bool
 stand text i a b = eqb (getD text i 0) a && eqb (getD text (i + 1) 0) b
 
--- a place of the text behind which so many comments are open, and what it says of the gap
+-- the gap from a place of the text on, where so many comments are open, with its end as a place of the text
 abbrev pub gapFrom : List ℕ → ℕ → ℕ → Gap
 gapFrom text at depth = behind at (gapOf (drop at text) depth)
 
+-- the gap that is ahead
 abbrev pub aheadGap : Ahead → Gap
 aheadGap (ahead-is.Clear i) = gap i
 aheadGap (ahead-is.Unclosed i) = unclosed i
@@ -101,10 +103,12 @@ pub record Spotted (text : List ℕ) (at depth : ℕ) (r : Spot) : Type 0 where
   pub few : r .depth ≤ r .at + 1
   pub same : gapFrom text at depth ≡ gapFrom text (r .at) (r .depth)
 
+-- how the gap goes on behind a comment
 abbrev pub commentGap : List ℕ → Comment → Gap
 commentGap text (comment-is.Closed i) = gapFrom text i zero
 commentGap text comment-is.Endless = lost
 
+-- a comment does not end before it begins
 abbrev pub commentLow : ℕ → Comment → Type 0
 commentLow at (comment-is.Closed i) = at ≤ i
 commentLow at comment-is.Endless = Unit
@@ -114,10 +118,12 @@ pub record CommentAt (text : List ℕ) (at : ℕ) (c : Comment) : Type 0 where
   pub is : gapFrom text at 1 ≡ commentGap text c
   pub low : commentLow at c
 
+-- how the gap goes on, or what is ahead
 abbrev pub hopGap : List ℕ → Hop → Gap
 hopGap text (hop-is.To i) = gapFrom text i zero
 hopGap text (hop-is.Done a) = aheadGap a
 
+-- a byte is passed
 abbrev pub hopLow : ℕ → Hop → Type 0
 hopLow at (hop-is.To i) = at < i
 hopLow at (hop-is.Done a) = Unit

@@ -1,5 +1,4 @@
 -- `bytes::belongs` meets its contract: each class has its own test. Assumes nothing.
-use native.Mathlib.Omega.{arith}
 use borrow.Author.Needs.{needs}
 use Rattle.hoa_tokens.proofs.bytes.belongs.Statement.{statement}
 use Rattle.hoa_tokens.proofs.bytes.belongs.Tie as tie

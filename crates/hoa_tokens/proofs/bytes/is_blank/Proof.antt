@@ -1,8 +1,6 @@
 -- `bytes::is_blank` meets its contract: its tests are the rule's, in the rule's order. Assumes nothing.
 use borrow.Author.Tests.{ne-eqb}
 use Rattle.hoa_tokens.specs.Bytes.{isBlank}
-use borrow.Author.Needs.{needs}
-use native.Mathlib.Omega.{arith}
 use Rattle.hoa_tokens.proofs.bytes.is_blank.Statement.{statement}
 use Rattle.hoa_tokens.proofs.bytes.is_blank.Tie as tie
 

@@ -1,8 +1,6 @@
 -- `bytes::is_capital` meets its contract: the two tests are the rule's. Assumes nothing.
 use Rattle.hoa_tokens.specs.Bytes.{isCapital}
 use Rattle.hoa_tokens.proofs.Runs.{under, from}
-use borrow.Author.Needs.{needs}
-use native.Mathlib.Omega.{arith}
 use Rattle.hoa_tokens.proofs.bytes.is_capital.Statement.{statement}
 use Rattle.hoa_tokens.proofs.bytes.is_capital.Tie as tie
 

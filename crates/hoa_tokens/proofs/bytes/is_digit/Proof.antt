@@ -1,8 +1,6 @@
 -- `bytes::is_digit` meets its contract: the two tests are the rule's. Assumes nothing.
 use Rattle.hoa_tokens.specs.Bytes.{isDigit}
 use Rattle.hoa_tokens.proofs.Runs.{under, from}
-use borrow.Author.Needs.{needs}
-use native.Mathlib.Omega.{arith}
 use Rattle.hoa_tokens.proofs.bytes.is_digit.Statement.{statement}
 use Rattle.hoa_tokens.proofs.bytes.is_digit.Tie as tie
 

@@ -2,7 +2,6 @@
 use mathlib.Core.Path.{sym, _∙_}
 use Rattle.hoa_tokens.specs.Bytes.{isLetter}
 use Rattle.hoa_tokens.proofs.Runs.{under, letter-high}
-use native.Mathlib.Omega.{arith}
 use borrow.Author.Needs.{needs}
 use Rattle.hoa_tokens.proofs.bytes.is_letter.Statement.{statement}
 use Rattle.hoa_tokens.proofs.bytes.is_letter.Tie as tie

@@ -1,6 +1,5 @@
 -- `bytes::is_name` meets its contract: its tests are the rule's, in the rule's order. Assumes nothing.
 use Rattle.hoa_tokens.specs.Bytes.{isName}
-use native.Mathlib.Omega.{arith}
 use borrow.Author.Needs.{needs}
 use Rattle.hoa_tokens.proofs.bytes.is_name.Statement.{statement}
 use Rattle.hoa_tokens.proofs.bytes.is_name.Tie as tie

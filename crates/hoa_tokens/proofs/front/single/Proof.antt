@@ -1,8 +1,6 @@
 -- `front::single` meets its contract: each mark is its own, and no other byte is one (`sign-none`). Assumes nothing.
 use Rattle.hoa_tokens.specs.Token.{signOf}
 use Rattle.hoa_tokens.proofs.Fronts.{sign-none}
-use borrow.Author.Needs.{needs}
-use native.Mathlib.Omega.{arith}
 use Rattle.hoa_tokens.proofs.front.single.Statement.{statement}
 use Rattle.hoa_tokens.proofs.front.single.Tie as tie
 

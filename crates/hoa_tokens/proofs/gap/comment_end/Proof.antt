@@ -6,7 +6,6 @@ use denote.Ref.{now}
 use lib.ListN.{length}
 use Rattle.hoa_tokens.specs.inner.Reads.{gapFrom}
 use Rattle.hoa_tokens.proofs.Gaps.{comment-lost}
-use borrow.Author.Needs.{needs}
 use native.Mathlib.Omega.{arith}
 use Rattle.hoa_tokens.proofs.gap.comment_end.Statement.{statement}
 use Rattle.hoa_tokens.proofs.gap.comment_end.Tie as tie

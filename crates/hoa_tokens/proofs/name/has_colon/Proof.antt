@@ -2,7 +2,6 @@
 use mathlib.Core.Path.{refl}
 use denote.Ref.{now}
 use lib.ListN.{List·getD-eq-default}
-use native.Mathlib.Omega.{arith}
 use borrow.Author.Needs.{needs}
 use Rattle.hoa_tokens.proofs.name.has_colon.Statement.{statement}
 use Rattle.hoa_tokens.proofs.name.has_colon.Tie as tie

@@ -1,0 +1,2 @@
+-- Trees: the formula that is written is a standard one, with the condition's marks and meaning
+pub mod Trees

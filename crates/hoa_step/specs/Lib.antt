@@ -1,0 +1,6 @@
+-- Machine: tokens taken one by one
+pub mod Machine
+-- Given: numbers that may be missing
+pub mod Given
+-- Wanted: where an INT or a STRING is wanted
+pub mod Wanted

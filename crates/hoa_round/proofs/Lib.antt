@@ -2,3 +2,7 @@
 pub mod Trees
 -- Means: it means the condition
 pub mod Means
+-- Conds: it is a condition of the format's grammar
+pub mod Conds
+-- Docs: the text that is written as a tree of the format's grammar
+pub mod Docs

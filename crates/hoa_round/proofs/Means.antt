@@ -13,8 +13,9 @@ use Rattle.table.specs.declared.Acceptance.the-variants as acceptance
 use Rattle.table.specs.Condition.{need}
 use Rattle.table.specs.Refusal.{someNeed, used, wrongCondition}
 use Rattle.table.proofs.Sound.{either-false, rabin-few}
-use Rattle.hoa_formula.specs.Standard.{standard, infsCount, pairNeed, rabinNeeds, eightNeeds, noNeeds, truthMeaning, stdMeaning}
-use Rattle.hoa_round.specs.Trees.{infsOf, needingOf, rabinOf, stdOf, comesBack}
+use Rattle.hoa_formula.specs.Standard.{standard, infsCount, pairNeed, rabinNeeds, eightNeeds, truthMeaning, stdMeaning}
+use Rattle.hoa_round.specs.Trees.{infsOf, needingOf, rabinOf, stdOf}
+use Rattle.hoa_round.specs.Back.{comesBack, needsFor}
 
 -- so many marks
 infs-count : (k n : ℕ) → infsCount (infsOf k) n ≡ n + suc k
@@ -69,12 +70,6 @@ needs-whole [] (suc k) l e = absurd (omega arith)
 needs-whole (n ∷ ns) (suc k) l e =
     let less : suc (length ns) - suc k ≡ length ns - k = omega arith in
     rw (segment-behind n ns 0 k, less) (ap (λ (xs : List ℕ). n ∷ xs) (needs-whole ns k (omega arith) e))
-
--- the needs that come back: 0 for other kinds than Rabin
-abbrev pub needsFor : Acceptance → List ℕ → List ℕ
-needsFor (acceptance.Buchi k) needs = noNeeds
-needsFor (acceptance.Streett p) needs = noNeeds
-needsFor (acceptance.Rabin p) needs = needs
 
 -- "the condition of the formula, with its eight needs": of a condition that row 4 lets pass
 pub tree-means : (c : Acceptance) (needs : List ℕ) → length needs ≡ 8 → wrongCondition c needs ≡ false

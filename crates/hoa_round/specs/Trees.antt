@@ -42,10 +42,3 @@ stdOf (acceptance.Streett zero) needs = Std.truth Truth.truth
 stdOf (acceptance.Streett (suc p)) needs = Std.streett (streettOf p)
 stdOf (acceptance.Rabin zero) needs = Std.truth Truth.falsity
 stdOf (acceptance.Rabin (suc p)) needs = Std.rabin (rabinOf needs 0 p)
-
--- what it means: "Streett 0 comes back as Büchi 0"
-abbrev pub comesBack : Acceptance → Acceptance
-comesBack (acceptance.Buchi k) = acceptance.Buchi k
-comesBack (acceptance.Streett zero) = acceptance.Buchi zero
-comesBack (acceptance.Streett (suc p)) = acceptance.Streett (suc p)
-comesBack (acceptance.Rabin p) = acceptance.Rabin p

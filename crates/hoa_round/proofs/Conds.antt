@@ -1,6 +1,6 @@
 -- The formula that is written is a condition of the format's grammar: its tree, with the tokens of the standard formula. Assumes nothing.
 use mathlib.Core.Bool.{false}
-use mathlib.Core.List.{List, _∷_}
+use mathlib.Core.List.{List}
 use mathlib.Core.Path.{_≡_, refl, ap, _∙_}
 use Prim.Native.Nat.{ℕ, zero, suc}
 use Rattle.table.specs.declared.Acceptance.{Acceptance}

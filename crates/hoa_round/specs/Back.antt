@@ -1,7 +1,7 @@
 -- What comes back when a text that was written is read (docs/RULES.md, "The Hanoi format", the writer): "Reading what was written gives the same n, start,
 -- edges, condition and needs; Streett 0 comes back as Büchi 0". Assumes nothing.
 use mathlib.Core.Path.{_≡_}
-use mathlib.Core.List.{List, [], _∷_, _++_}
+use mathlib.Core.List.{List, [], _∷_, _++_, map}
 use Prim.Native.Nat.{ℕ, zero, suc, _≤_}
 use lib.ListN.{length, getD}
 use Rattle.table.specs.declared.Acceptance.{Acceptance}
@@ -38,12 +38,18 @@ abbrev pub edgesTo : List ℕ → List ℕ → List ℕ → ℕ → List Edge
 edgesTo from to marks zero = []
 edgesTo from to marks (suc k) = edgesTo from to marks k ++ (edgeOf from to marks k ∷ [])
 
+-- these edges are the table's three lists (`Round.same-cells`, in proofs/)
+pub record SameCells (from to marks : List ℕ) : Type 0 where
+  pub froms : map (λ (e : Edge). e .from) (edgesTo from to marks (length from)) ≡ from
+  pub tos : map (λ (e : Edge). e .to) (edgesTo from to marks (length from)) ≡ to
+  pub sets : map (λ (e : Edge). e .marks) (edgesTo from to marks (length from)) ≡ marks
+
 -- "the same n, start, edges, condition and needs"
 abbrev pub backOf : ℕ → ℕ → List ℕ → List ℕ → List ℕ → Acceptance → List ℕ → Job
 backOf n start from to marks c needs =
     record { states = n; start = start; condition = comesBack c; needs = needsFor c needs; edges = edgesTo from to marks (length from) }
 
--- the whole promise: what is written of a table and a condition that rows 1 to 7 and the writer's limits let pass is read as them (`Reads.reads-back`, in
+-- the whole promise: what is written of a table and a condition that rows 1 to 7 and the writer's limits let pass is read as them (`Round.reads-back`, in
 -- proofs/)
 pub record ReadsBack : Type 0 where
   pub back : (n start : ℕ) (from to marks : List ℕ) (c : Acceptance) (needs : List ℕ) → length needs ≡ mostPairs

@@ -43,7 +43,7 @@ fn put_word(out: &mut [u8], at: usize, word: &[u8]) -> usize
 }
 
 // How many decimal digits a number has.
-fn count_digits(n: u32) -> usize
+pub fn count_digits(n: u32) -> usize
     ensures { λ r. ⌜ r ≡ length (decimal n) ⌝ }
 {
     let mut count = 1;

@@ -4,9 +4,13 @@ use mathlib.Core.Path.{sym, _∙_}
 use Rattle.marks.proofs.Unique.{OneResult}
 use Rattle.table.proofs.check.Reads as check
 use Rattle.table.proofs.row.run.Reads as run
+use Rattle.table.proofs.marks_used.Reads as marks-used
 
 pub found-once : OneResult check.Post
 found-once κ a r s e f p q = p ∙ sym q
 
 pub run-once : OneResult run.Post
 run-once κ a r s e f p q = p ∙ sym q
+
+pub used-once : OneResult marks-used.Post
+used-once κ a r s e f p q = p ∙ sym q

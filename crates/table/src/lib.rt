@@ -5,8 +5,9 @@ mod edges;
 pub mod row;
 
 ghost use mathlib.Core.Path.{_≡_};
+ghost use mathlib.Core.Bool.{cond};
 ghost use Rattle.table.specs.Table.{lent};
-ghost use Rattle.table.specs.Refusal.{refusal};
+ghost use Rattle.table.specs.Refusal.{refusal, used, wrongCondition};
 
 pub const MOST_STATES: u32 = 4096;
 
@@ -83,4 +84,14 @@ pub fn check(
     }
     let used = condition::used_marks(condition, needs);
     edges::check_edges(n, from, to, marks, used)
+}
+
+// How many marks a condition uses; 0 for one that row 4 refuses.
+pub fn marks_used(condition: Acceptance, needs: [u32; 8]) -> u32
+    ensures { λ r. ⌜ r ≡ cond (wrongCondition condition needs) 0 (used condition needs) ⌝ }
+{
+    if condition::wrong_condition(condition, needs) {
+        return 0;
+    }
+    condition::used_marks(condition, needs)
 }

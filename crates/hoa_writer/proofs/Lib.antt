@@ -1,0 +1,24 @@
+-- Few: one text after another, in at most so many bytes
+pub mod Few
+-- Sigs: the marks of an edge
+pub mod Sigs
+-- Formulas: the formula of a condition
+pub mod Formulas
+-- Rows: the lines of a state
+pub mod Rows
+-- Writings: what the writer gives
+pub mod Writings
+-- Size: how long a text is at most
+pub mod Size
+-- Spells: bytes that spell tokens
+pub mod Spells
+-- Ints: the digits of a number spell it
+pub mod Ints
+-- Words: the words, headers, signs and keys of a text
+pub mod Words
+-- Tokens: the tokens of what is written
+pub mod Tokens
+-- Unique: one result for one input
+pub mod Unique
+-- Examples: some texts
+pub mod Examples

@@ -189,12 +189,14 @@ truthDone (TruthBehind.is true zero) = standard (acceptance.Buchi 0) noNeeds
 truthDone (TruthBehind.is false zero) = standard (acceptance.Rabin 0) noNeeds
 truthDone (TruthBehind.is b (suc d)) = short
 
-unfoldable pub meaningOf : ℕ → ℕ → List ℕ → Behind → FormulaMeaning
-meaningOf c n ns b =
-    cond (ltb n c) short
-    (cond (buchiDone (b .buchi)) (standard (acceptance.Buchi c) noNeeds)
+abbrev pub byDone : ℕ → List ℕ → Behind → FormulaMeaning
+byDone c ns b =
+    cond (buchiDone (b .buchi)) (standard (acceptance.Buchi c) noNeeds)
     (cond (rabinDone (b .rabin)) (rabinMeaning ns)
-    (cond (streettDone (b .streett) || bareDone (b .bare)) (standard (acceptance.Streett (c / 2)) noNeeds) (truthDone (b .truth)))))
+    (cond (streettDone (b .streett) || bareDone (b .bare)) (standard (acceptance.Streett (c / 2)) noNeeds) (truthDone (b .truth))))
+
+unfoldable pub meaningOf : ℕ → ℕ → List ℕ → Behind → FormulaMeaning
+meaningOf c n ns b = cond (ltb n c) short (byDone c ns b)
 
 -- behind an operand with no open bracket a token that section 2 does not admit is the token behind
 abbrev pub ends : ℕ → FormulaMeaning → ℕ → FormulaStep

@@ -6,3 +6,7 @@ pub mod Standard
 pub mod Machines
 -- Formulas: admission, one token at a time
 pub mod Formulas
+-- Reading: what the reader promises
+pub mod Reading
+-- inner: what only the reader's own contracts need
+pub mod inner

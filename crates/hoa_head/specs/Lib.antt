@@ -4,3 +4,5 @@ pub mod Head
 pub mod Heading
 -- Headed: what comes back
 pub mod Headed
+-- inner: what private functions ask and promise
+pub mod inner

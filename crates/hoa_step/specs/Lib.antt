@@ -4,3 +4,5 @@ pub mod Machine
 pub mod Given
 -- Wanted: where an INT or a STRING is wanted
 pub mod Wanted
+-- inner: what private functions ask and promise
+pub mod inner

@@ -96,7 +96,7 @@ pub(crate) fn run_end(text: &[u8], at: usize, class: Class) -> usize
 }
 
 // Whether the two are the same bytes.
-pub(crate) fn alike(bytes: &[u8], word: &[u8]) -> bool
+pub fn alike(bytes: &[u8], word: &[u8]) -> bool
     ensures { λ r. ⌜ r ≡ same (now (bytes .entry)) (now (word .entry)) ⌝ }
 {
     if bytes.len() != word.len() {

@@ -1,6 +1,6 @@
 // The tokens of the Hanoi format (docs/RULES.md, "The Hanoi format"): what stands at a place of a text. Relies on nothing.
 // What the tokens of a text are is in specs/.
-mod bytes;
+pub mod bytes;
 mod front;
 mod gap;
 mod name;

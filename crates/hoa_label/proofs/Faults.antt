@@ -14,10 +14,56 @@ use Rattle.hoa_tokens.specs.declared.Sign.{Sign}
 use Rattle.hoa_tokens.specs.declared.Sign.the-variants as sign-is
 use Rattle.hoa_tokens.specs.Token.{Token, int, word, header, str, aname, sign, body, end, abort, finish, bad}
 use Rattle.hoa_label.specs.declared.Wanted.the-variants as wanted-is
-use Rattle.hoa_label.specs.Label.{Label, conj, factor, Lfactor, truth, prop, alias, nested, labelText, labelFits, factorFits, labelDepth, factorDepth, factorText,
-  Any, Fitting, Within, Begins, Fault, no-label, none-fits, too-deep}
-use Rattle.hoa_label.specs.Labels.{propSet, Frame, LabelState, wants, has, labelBegin, LabelStep, go, shut, wrong, stepWithin, wanted, wantedWord,
-  wantedSign, onWanted, behind, behindSign, onBehind, isOutermost, going, closed, faulty, walkBy, walkWithin}
+use Rattle.hoa_label.specs.Label.{
+  Label,
+  conj,
+  factor,
+  Lfactor,
+  truth,
+  prop,
+  alias,
+  nested,
+  labelText,
+  labelFits,
+  factorFits,
+  labelDepth,
+  factorDepth,
+  factorText,
+  Any,
+  Fitting,
+  Within,
+  Begins,
+  Fault,
+  no-label,
+  none-fits,
+  too-deep,
+}
+use Rattle.hoa_label.specs.Labels.{
+  propSet,
+  Frame,
+  LabelState,
+  wants,
+  has,
+  labelBegin,
+  LabelStep,
+  go,
+  shut,
+  wrong,
+  stepWithin,
+  wanted,
+  wantedWord,
+  wantedSign,
+  onWanted,
+  behind,
+  behindSign,
+  onBehind,
+  isOutermost,
+  going,
+  closed,
+  faulty,
+  walkBy,
+  walkWithin,
+}
 use Rattle.hoa_label.proofs.Walks.{walk-one}
 use Rattle.hoa_label.proofs.Complete.{refused, no-syntax-fault, no-early-fault}
 use Rattle.hoa_label.proofs.Sound.{Ends, last, out, Factored, Rests, Few, framesOf, whole, pull, sound}
@@ -49,7 +95,8 @@ module _ (S D : Type 0) (levels a : ℕ) where
         fit = record { fits = l .fits; deep = λ k. omega (arith, h k, l .flat k) };
         after = shutters fs;
         text = l .text;
-        ends = shut-ends fs }
+        ends = shut-ends fs;
+      }
 
   -- what a label has whose first tokens lead to a state
   record Begun (ts : List Token) : Type 0 where
@@ -59,14 +106,15 @@ module _ (S D : Type 0) (levels a : ℕ) where
     text : labelText label (sign sign-is.BracketRight ∷ []) ≡ ts
 
   begun : (u : LabelState) (ts us : List Token) → walkWithin levels a labelBegin ts ≡ going u
-    → (Few S D levels a [] (framesOf S D levels a [] u) → Rests S D levels a [] u us) → Begun (ts ++ us)
+      → (Few S D levels a [] (framesOf S D levels a [] u) → Rests S D levels a [] u us) → Begun (ts ++ us)
   begun u ts us e r =
       let w = whole S D levels a [] (ts ++ us) (pull S D levels a [] u us r ts labelBegin e (λ k. omega arith)) in
       record {
         label = w .label;
         fits = w .fits;
         deep = λ k. omega (arith, w .deep k);
-        text = sym (w .text ∙ ap (labelText (w .label)) (w .shuts)) }
+        text = sym (w .text ∙ ap (labelText (w .label)) (w .shuts));
+      }
 
 fitting : (levels a : ℕ) (ts us : List Token) → Begun Unit Unit levels a (ts ++ us) → Begins (Within levels a) ts
 fitting levels a ts us b = record { label = b .label; kind = record { fits = b .fits tt; deep = b .deep tt }; more = us; text = b .text }
@@ -123,13 +171,13 @@ module _ (levels a : ℕ) where
   none fs k = absurd k
 
   blame-int : (below : Bool) (i : ℕ) (f : Frame) (fs : List Frame)
-    → Blamed (wants f fs) (int i) (onWanted f fs (cond below (wanted-is.Set (propSet i)) (wanted-is.Wrong 41)))
+      → Blamed (wants f fs) (int i) (onWanted f fs (cond below (wanted-is.Set (propSet i)) (wanted-is.Wrong 41)))
   unfolding labelText
   blame-int true i f fs = tt
   blame-int false i f fs = unfit (shutters fs) (lone ⊥ ⊥ levels a (record { first = prop i; fits = absurd; flat = absurd; text = refl }) (none fs))
 
   blame-level : (room : Bool) (f : Frame) (fs : List Frame)
-    → Blamed (wants f fs) (sign sign-is.ParenLeft) (onWanted f fs (cond room wanted-is.Deeper (wanted-is.Wrong 42)))
+      → Blamed (wants f fs) (sign sign-is.ParenLeft) (onWanted f fs (cond room wanted-is.Deeper (wanted-is.Wrong 42)))
   unfolding labelText labelFits
   blame-level true f fs = tt
   blame-level false f fs =
@@ -215,7 +263,7 @@ module _ (levels a : ℕ) where
   -- ---- the faulty token
 
   at-fault : (ts : List Token) (s : LabelState) (t : Token) (n : ℕ) → walkWithin levels a labelBegin ts ≡ going s
-    → walkWithin levels a labelBegin (ts ++ t ∷ []) ≡ faulty n → Cause s t n → Fault levels a ts t n
+      → walkWithin levels a labelBegin (ts ++ t ∷ []) ≡ faulty n → Cause s t n → Fault levels a ts t n
   at-fault ts s t n e w (syntax q) = no-label (not-abort t q) (no-syntax-fault levels a (ts ++ t ∷ []) w)
   at-fault ts s t n e w (aborted q) = none-fits (inl q) (no-early-fault levels a (ts ++ t ∷ []) 41 (λ (h : 41 ≡ 42). omega arith) w)
   at-fault ts s t n e w (unfit us r) =
@@ -231,7 +279,7 @@ module _ (levels a : ℕ) where
 
   -- a token that is refused behind tokens that are admitted is faulty with its number
   pub faulty-token : (ts : List Token) (s : LabelState) (t : Token) (n : ℕ) → walkWithin levels a labelBegin ts ≡ going s
-    → stepWithin levels a s t ≡ wrong n → Fault levels a ts t n
+      → stepWithin levels a s t ≡ wrong n → Fault levels a ts t n
   faulty-token ts s t n e q =
       at-fault ts s t n e
       (walk-one levels a labelBegin s ts t e ∙ ap (λ (d : LabelStep). walkBy d [] going) q)

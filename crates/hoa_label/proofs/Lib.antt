@@ -14,3 +14,11 @@ pub mod Meaning
 pub mod Told
 -- Runs: the run over a text's tokens, one token at a time
 pub mod Runs
+-- Promises: what the reader promises of a text
+pub mod Promises
+-- Unique: the contract allows one result
+pub mod Unique
+-- Examples: labels from bytes to sets
+pub mod Examples
+-- Carry: for a machine that follows these steps inside a label
+pub mod Carry

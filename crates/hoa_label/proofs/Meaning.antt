@@ -14,8 +14,30 @@ use lib.Pow.{pow-pos}
 use Rattle.marks.specs.Mark.{has}
 use Rattle.marks.proofs.Cases.{below}
 use Rattle.marks.proofs.Laws.{or-digit, and-digit, xor-digit, half-digit, low-digit, has-ones, has-none, some-mark, has-fits}
-use Rattle.hoa_label.specs.Label.{Label, conj, or, Lconj, factor, and, Lfactor, truth, falsity, prop, alias, negated, nested,
-  labelFits, conjFits, factorFits, labelHolds, conjHolds, factorHolds, Satisfiable, valuation, SetOf}
+use Rattle.hoa_label.specs.Label.{
+  Label,
+  conj,
+  or,
+  Lconj,
+  factor,
+  and,
+  Lfactor,
+  truth,
+  falsity,
+  prop,
+  alias,
+  negated,
+  nested,
+  labelFits,
+  conjFits,
+  factorFits,
+  labelHolds,
+  conjHolds,
+  factorHolds,
+  Satisfiable,
+  valuation,
+  SetOf,
+}
 use Rattle.hoa_label.specs.Labels.{full, propSet, turned}
 use Rattle.hoa_label.proofs.Sets.{orsOf, lastOf, andsOf, setOf, labelSet}
 
@@ -99,20 +121,31 @@ module _ (a v : ℕ) (six : a ≤ 6) (h : v < 64) where
 
   mutual
     unfolding orsOf labelFits labelHolds
+
     label-digit : (l : Label) (o : ℕ) → labelFits l a
-      → max (orsOf l o / 2 ^ v % 2) (lastOf l / 2 ^ v % 2) ≡ max (o / 2 ^ v % 2) (digit (labelHolds l (valuation v)))
+        → max (orsOf l o / 2 ^ v % 2) (lastOf l / 2 ^ v % 2) ≡ max (o / 2 ^ v % 2) (digit (labelHolds l (valuation v)))
     label-digit (conj c) o f = omega (arith, conj-digit c full f, full-digit, digit-small (conjHolds c (valuation v)))
     label-digit (or c l) o f =
-        omega
-        (arith, label-digit l (bitOr o (andsOf c full)) (f .1), or-digit o (andsOf c full) v, conj-digit c full (f .0), full-digit, digit-small (conjHolds c (valuation v)),
-        digit-or (conjHolds c (valuation v)) (labelHolds l (valuation v)))
+        omega (
+          arith,
+          label-digit l (bitOr o (andsOf c full)) (f .1),
+          or-digit o (andsOf c full) v,
+          conj-digit c full (f .0),
+          full-digit,
+          digit-small (conjHolds c (valuation v)),
+          digit-or (conjHolds c (valuation v)) (labelHolds l (valuation v)),
+        )
 
     conj-digit : (c : Lconj) (k : ℕ) → conjFits c a → andsOf c k / 2 ^ v % 2 ≡ min (k / 2 ^ v % 2) (digit (conjHolds c (valuation v)))
     conj-digit (factor x) k f = and-digit k (setOf x false) v ∙ ap (min (k / 2 ^ v % 2)) (factor-digit x false f)
     conj-digit (and x c) k f =
-        omega
-        (arith, conj-digit c (bitAnd k (setOf x false)) (f .1), and-digit k (setOf x false) v, factor-digit x false (f .0),
-        digit-and (factorHolds x (valuation v)) (conjHolds c (valuation v)))
+        omega (
+          arith,
+          conj-digit c (bitAnd k (setOf x false)) (f .1),
+          and-digit k (setOf x false) v,
+          factor-digit x false (f .0),
+          digit-and (factorHolds x (valuation v)) (conjHolds c (valuation v)),
+        )
 
     factor-digit : (x : Lfactor) (n : Bool) → factorFits x a → setOf x n / 2 ^ v % 2 ≡ digit (flipped n (factorHolds x (valuation v)))
     factor-digit truth n f = turned-digit n true full full-digit
@@ -144,6 +177,7 @@ turned-small true x h = xor-lt 64 full x full-small h
 module _ (a : ℕ) (six : a ≤ 6) where
   mutual
     unfolding orsOf labelFits
+
     ors-small : (l : Label) (o : ℕ) → labelFits l a → o < 2 ^ 64 → orsOf l o < 2 ^ 64
     ors-small (conj c) o f h = h
     ors-small (or c l) o f h = ors-small l (bitOr o (andsOf c full)) (f .1) (or-lt 64 o (andsOf c full) h (ands-small c full (f .0) full-small))
@@ -177,14 +211,16 @@ module _ (a : ℕ) (six : a ≤ 6) where
       record {
         small = or-lt 64 (orsOf l 0) (lastOf l) (ors-small l 0 f (omega arith)) (last-small l f);
         each = λ v h.
-          holds-digit (labelHolds l (valuation v)) (labelSet l / 2 ^ v % 2)
-          (or-digit (orsOf l 0) (lastOf l) v ∙ label-digit a v six h l 0 f ∙ omega (arith, none-digit a v six h)) }
+            holds-digit (labelHolds l (valuation v)) (labelSet l / 2 ^ v % 2)
+            (or-digit (orsOf l 0) (lastOf l) v ∙ label-digit a v six h l 0 f ∙ omega (arith, none-digit a v six h));
+      }
 
 -- ---- whether it is empty
 
 module _ (a : ℕ) (f g : ℕ → Bool) (alike : (i : ℕ) → i < a → f i ≡ g i) where
   mutual
     unfolding labelFits labelHolds
+
     label-alike : (l : Label) → labelFits l a → labelHolds l f ≡ labelHolds l g
     label-alike (conj c) h = conj-alike c h
     label-alike (or c l) h = cc (conj-alike c (h .0), label-alike l (h .1))
@@ -243,8 +279,9 @@ satisfiable a l x six f s = (to, from)
           values = cut-off a (valuation (m .0));
           of-a = λ i h. rw (le-ltb i a h);
           makes-true =
-            label-alike a (cut-off a (valuation (m .0))) (valuation (m .0)) (λ i h. rw (lt-ltb i a h)) l f
-            ∙ s .each (m .0) (has-fits 64 (m .0) x (s .small) (m .1)) .0 (m .1) }
+              label-alike a (cut-off a (valuation (m .0))) (valuation (m .0)) (λ i h. rw (lt-ltb i a h)) l f
+              ∙ s .each (m .0) (has-fits 64 (m .0) x (s .small) (m .1)) .0 (m .1);
+        }
 
     from : Satisfiable a l → x ≢ 0
     from y e =

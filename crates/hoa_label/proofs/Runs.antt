@@ -27,51 +27,92 @@ use Rattle.hoa_label.specs.declared.Behind.the-variants as behind-is
 use Rattle.hoa_label.specs.declared.LabelRead.{LabelRead}
 use Rattle.hoa_label.specs.declared.LabelRead.the-variants.{Shut, Refused}
 use Rattle.hoa_label.specs.Label.{mostLevels}
-use Rattle.hoa_label.specs.Labels.{turned, full, propSet, wantedWord, wantedSign, Frame, frame, fresh, LabelState, wants, has, wanted, behind, onWanted, onBehind, isOutermost, shutLevel, stepWithin,
-  labelStep, LabelEnd, shutAt, wrongAt, endBy, labelRun}
-use Rattle.hoa_label.specs.Reading.{Onward, factorEnd, FactorAt, flippedRead, levelEnd, LevelAt, LabelAt}
+use Rattle.hoa_label.specs.Labels.{
+  turned,
+  full,
+  propSet,
+  wantedWord,
+  wantedSign,
+  Frame,
+  frame,
+  fresh,
+  LabelState,
+  wants,
+  has,
+  wanted,
+  behind,
+  onWanted,
+  onBehind,
+  isOutermost,
+  shutLevel,
+  stepWithin,
+  LabelStep,
+  go,
+  shut,
+  wrong,
+  labelStep,
+  LabelEnd,
+  shutAt,
+  wrongAt,
+  endBy,
+  labelRun,
+  nextBy,
+  labelNext,
+}
+use Rattle.hoa_label.specs.Reading.{Onward, LabelAt}
+use Rattle.hoa_label.specs.inner.Levels.{Stop, stopFrom, stopBy, factorStop, FactorAt, flippedRead, levelStop, LevelAt}
 
 -- ---- one token
 
-finish-wrong : (a : ℕ) (s : LabelState) (p : ℕ) (ps qs : List Placed)
-  → endBy (labelStep a s finish) p ps (λ u. labelRun a u ps) ≡ endBy (labelStep a s finish) p qs (λ u. labelRun a u qs)
-unfolding labelStep stepWithin wanted behind
-finish-wrong a (wants f fs) p ps qs = refl
-finish-wrong a (has o c fs) p ps qs = refl
+paired : (d : LabelStep) (p q : ℕ) (ps : List Placed) (run : LabelState → LabelEnd) (next : LabelState → ℕ)
+    → (endBy d p ps run, nextBy d q next) ≡ stopBy d p q ps (λ u. (run u, next u))
+paired (go s) p q ps run next = refl
+paired (shut x) p q ps run next = refl
+paired (wrong n) p q ps run next = refl
 
-ended : (a : ℕ) (s : LabelState) (t : Token) (p : ℕ) (ps : List Placed)
-  → endBy (labelStep a s t) p (unlessFinished t ps) (λ u. labelRun a u (unlessFinished t ps)) ≡ endBy (labelStep a s t) p ps (λ u. labelRun a u ps)
-ended a s finish p ps = finish-wrong a s p [] ps
-ended a s (int n) p ps = refl
-ended a s (word w) p ps = refl
-ended a s (header h) p ps = refl
-ended a s (str bs) p ps = refl
-ended a s aname p ps = refl
-ended a s (sign m) p ps = refl
-ended a s body p ps = refl
-ended a s end p ps = refl
-ended a s abort p ps = refl
-ended a s bad p ps = refl
+finish-wrong : (a : ℕ) (s : LabelState) (p q : ℕ) (ps qs : List Placed)
+    → stopBy (labelStep a s finish) p q ps (λ u. (labelRun a u ps, labelNext a u ps)) ≡ stopBy (labelStep a s finish) p q qs (λ u. (labelRun a u qs, labelNext a u qs))
+unfolding labelStep stepWithin wanted behind
+finish-wrong a (wants f fs) p q ps qs = refl
+finish-wrong a (has o c fs) p q ps qs = refl
+
+ended : (a : ℕ) (s : LabelState) (t : Token) (p q : ℕ) (ps : List Placed)
+    → stopBy (labelStep a s t) p q (unlessFinished t ps) (λ u. (labelRun a u (unlessFinished t ps), labelNext a u (unlessFinished t ps)))
+    ≡ stopBy (labelStep a s t) p q ps (λ u. (labelRun a u ps, labelNext a u ps))
+ended a s finish p q ps = finish-wrong a s p q [] ps
+ended a s (int n) p q ps = refl
+ended a s (word w) p q ps = refl
+ended a s (header h) p q ps = refl
+ended a s (str bs) p q ps = refl
+ended a s aname p q ps = refl
+ended a s (sign m) p q ps = refl
+ended a s body p q ps = refl
+ended a s end p q ps = refl
+ended a s abort p q ps = refl
+ended a s bad p q ps = refl
 
 module _ (text : List ℕ) (a : ℕ) where
   -- the run from a state on
-  abbrev onFrom : ℕ → LabelState → LabelEnd
-  onFrom at s = labelRun a s (tokensAt text at)
+  abbrev onFrom : ℕ → LabelState → Stop
+  onFrom at s = stopFrom text a at s
 
   run-step : {at : ℕ} {f : Found} (s : LabelState) → TokenAt text at f
-    → onFrom at s ≡ endBy (labelStep a s (tokenOf text (f .first) (f .next) (f .kind))) (f .first) (tokensAt text (f .next)) (onFrom (f .next))
-  unfolding labelRun
-  run-step {at} {f} s h = rw (tokens-next text at f h) (ended a s (tokenOf text (f .first) (f .next) (f .kind)) (f .first) (tokensAt text (f .next)))
+      → onFrom at s ≡ stopBy (labelStep a s (tokenOf text (f .first) (f .next) (f .kind))) (f .first) (f .next) (tokensAt text (f .next)) (onFrom (f .next))
+  unfolding labelRun labelNext
+  run-step {at} {f} s h =
+      rw (tokens-next text at f h)
+      (paired (labelStep a s (tokenOf text (f .first) (f .next) (f .kind))) (f .first) (f .next) _ _ _
+      ∙ ended a s (tokenOf text (f .first) (f .next) (f .kind)) (f .first) (f .next) (tokensAt text (f .next)))
 
   -- what the token is where a factor is wanted
   abbrev Wants : ℕ → Kind → Wanted → Type 0
   Wants depth k w = (bs : List ℕ) (p q : ℕ) → w ≡ wanted a (ltb depth mostLevels) (tokenOf bs p q k)
 
   wants-run : {at depth : ℕ} {f : Found} {w v : Wanted} (r : Frame) (fs : List Frame) → length fs ≡ depth → TokenAt text at f → Wants depth (f .kind) w → w ≡ v
-    → onFrom at (wants r fs) ≡ endBy (onWanted r fs v) (f .first) (tokensAt text (f .next)) (onFrom (f .next))
+      → onFrom at (wants r fs) ≡ stopBy (onWanted r fs v) (f .first) (f .next) (tokensAt text (f .next)) (onFrom (f .next))
   unfolding labelStep stepWithin
   wants-run {f = f} r fs l h e q =
-      run-step (wants r fs) h ∙ ap (λ (v : Wanted). endBy (onWanted r fs v) (f .first) (tokensAt text (f .next)) (onFrom (f .next)))
+      run-step (wants r fs) h ∙ ap (λ (v : Wanted). stopBy (onWanted r fs v) (f .first) (f .next) (tokensAt text (f .next)) (onFrom (f .next)))
       (ap (λ (d : ℕ). wanted a (ltb d mostLevels) (tokenOf text (f .first) (f .next) (f .kind))) l ∙ sym (e text (f .first) (f .next)) ∙ q)
 
   -- what the token is behind a factor
@@ -83,10 +124,10 @@ module _ (text : List ℕ) (a : ℕ) where
   outermost (f ∷ fs) = sym (eqb·suc-zero (length fs))
 
   behind-run : {at depth : ℕ} {f : Found} {b v : Behind} (o c : ℕ) (fs : List Frame) → length fs ≡ depth → TokenAt text at f → Stands depth (f .kind) b → b ≡ v
-    → onFrom at (has o c fs) ≡ endBy (onBehind o c fs v) (f .first) (tokensAt text (f .next)) (onFrom (f .next))
+      → onFrom at (has o c fs) ≡ stopBy (onBehind o c fs v) (f .first) (f .next) (tokensAt text (f .next)) (onFrom (f .next))
   unfolding labelStep stepWithin
   behind-run {f = f} o c fs l h e q =
-      run-step (has o c fs) h ∙ ap (λ (v : Behind). endBy (onBehind o c fs v) (f .first) (tokensAt text (f .next)) (onFrom (f .next)))
+      run-step (has o c fs) h ∙ ap (λ (v : Behind). stopBy (onBehind o c fs v) (f .first) (f .next) (tokensAt text (f .next)) (onFrom (f .next)))
       (ap (λ (d : Bool). behind d (tokenOf text (f .first) (f .next) (f .kind))) (outermost fs ∙ ap (λ (d : ℕ). eqb d 0) l)
       ∙ sym (e text (f .first) (f .next)) ∙ q)
 
@@ -118,7 +159,8 @@ module _ (text : List ℕ) (a : ℕ) where
         let m = fine-moves depth h e (ap isFine q) in
         record {
           is = λ o c fs l. i .is o c fs l ∙ wants-run (frame o c flipped) fs l h e q;
-          onward = omega (arith, i .onward, m .behind-at, m .takes) }
+          onward = omega (arith, i .onward, m .behind-at, m .takes);
+        }
 
     pub not-less : w ≡ wanted-is.Not → (from < f .next) × (from < length text)
     unfolding isFine
@@ -131,7 +173,8 @@ module _ (text : List ℕ) (a : ℕ) where
         rw d
         (record {
           is = λ o c fs l. i .is o c fs l ∙ wants-run (frame o c flipped) fs l h e q;
-          onward = (omega (arith, i .onward, m .behind-at, m .takes), m .within) })
+          onward = (omega (arith, i .onward, m .behind-at, m .takes), m .within);
+        })
 
     pub wrong-read : {n : ℕ} → w ≡ wanted-is.Wrong n → FactorAt text at a depth (Refused n (f .first))
     wrong-read q = record { is = λ o c fs l. i .is o c fs l ∙ wants-run (frame o c flipped) fs l h e q; onward = tt }
@@ -142,7 +185,8 @@ module _ (text : List ℕ) (a : ℕ) where
         let m = fine-moves depth h e (ap isFine q) in
         record {
           is = λ o c fs l. i .is o c fs l ∙ wants-run (frame o c flipped) fs l h e q ∙ v .is (frame o c flipped ∷ fs) (omega arith);
-          onward = (omega (arith, i .onward, m .behind-at, m .takes, v .onward .0), v .onward .1) }
+          onward = (omega (arith, i .onward, m .behind-at, m .takes, v .onward .0), v .onward .1);
+        }
     deeper (Refused n p) q v =
         record { is = λ o c fs l. i .is o c fs l ∙ wants-run (frame o c flipped) fs l h e q ∙ v .is (frame o c flipped ∷ fs) (omega arith); onward = tt }
 
@@ -152,10 +196,10 @@ module _ (text : List ℕ) (a : ℕ) where
   -- ---- a level
 
   -- what shuts a level is never faulty
-  no-place : (x : ℕ) (fs : List Frame) (p : ℕ) (ps : List Placed) (more : LabelState → LabelEnd)
-    → endBy (shutLevel x fs) p ps more ≡ endBy (shutLevel x fs) 0 ps more
-  no-place x [] p ps more = refl
-  no-place x (f ∷ fs) p ps more = refl
+  no-place : (x : ℕ) (fs : List Frame) (p q : ℕ) (ps : List Placed) (more : LabelState → Stop)
+      → stopBy (shutLevel x fs) p q ps more ≡ stopBy (shutLevel x fs) 0 q ps more
+  no-place x [] p q ps more = refl
+  no-place x (f ∷ fs) p q ps more = refl
 
   -- behind an `&`, a `|` or nothing, with these sets
   pub record Joins (at depth ors ands from : ℕ) : Type 0 where
@@ -164,12 +208,12 @@ module _ (text : List ℕ) (a : ℕ) where
 
   module _ {at depth ors ands from : ℕ} {r : LabelRead} (i : Joins at depth ors ands from) (v : FactorAt text from a depth r) where
     pub factor-wrong : {n p : ℕ} → r ≡ Refused n p → LevelAt text at a depth (Refused n p)
-    factor-wrong q = record { is = λ fs l. i .is fs l ∙ v .is ors ands fs l ∙ ap (factorEnd text a ors ands fs) q; onward = tt }
+    factor-wrong q = record { is = λ fs l. i .is fs l ∙ v .is ors ands fs l ∙ ap (factorStop text a ors ands fs) q; onward = tt }
 
     module _ {x from' : ℕ} {f : Found} {b : Behind} (q : r ≡ Shut x from') (h : TokenAt text from' f) (e : Stands depth (f .kind) b) where
       onto : {u : Behind} (fs : List Frame) → length fs ≡ depth → b ≡ u
-        → onFrom at (wants fresh fs) ≡ endBy (onBehind ors (bitAnd ands x) fs u) (f .first) (tokensAt text (f .next)) (onFrom (f .next))
-      onto fs l k = i .is fs l ∙ v .is ors ands fs l ∙ ap (factorEnd text a ors ands fs) q ∙ behind-run ors (bitAnd ands x) fs l h e k
+          → onFrom at (wants fresh fs) ≡ stopBy (onBehind ors (bitAnd ands x) fs u) (f .first) (f .next) (tokensAt text (f .next)) (onFrom (f .next))
+      onto fs l k = i .is fs l ∙ v .is ors ands fs l ∙ ap (factorStop text a ors ands fs) q ∙ behind-run ors (bitAnd ands x) fs l h e k
 
       further : (from < from') × (from' ≤ length text)
       further = subst (Onward text from) q (v .onward)
@@ -184,7 +228,7 @@ module _ (text : List ℕ) (a : ℕ) where
       or-again k d g = rw (d, g) (record { is = λ fs l. onto fs l k; onward = omega (arith, i .onward, level-less) })
 
       pub shut-read : b ≡ behind-is.Shut → LevelAt text at a depth (Shut (bitOr ors (bitAnd ands x)) (f .next))
-      shut-read k = record { is = λ fs l. onto fs l k ∙ no-place (bitOr ors (bitAnd ands x)) fs (f .first) (tokensAt text (f .next)) (onFrom (f .next)); onward = (omega (arith, i .onward, level-less), h .within (further .1)) }
+      shut-read k = record { is = λ fs l. onto fs l k ∙ no-place (bitOr ors (bitAnd ands x)) fs (f .first) (f .next) (tokensAt text (f .next)) (onFrom (f .next)); onward = (omega (arith, i .onward, level-less), h .within (further .1)) }
 
       pub behind-wrong : {n : ℕ} → b ≡ behind-is.Wrong n → LevelAt text at a depth (Refused n (f .first))
       behind-wrong k = record { is = λ fs l. onto fs l k; onward = tt }
@@ -249,5 +293,5 @@ room-left text a depth k e q = ltb-true depth mostLevels (by-room (ltb depth mos
 
 -- a level with none outside is a label
 pub label-read : (text : List ℕ) (at a : ℕ) {r : LabelRead} → LevelAt text at a 0 r → LabelAt text at a r
-label-read text at a {r = Shut x next} v = record { is = v .is [] refl; onward = v .onward }
-label-read text at a {r = Refused n p} v = record { is = v .is [] refl; onward = v .onward }
+label-read text at a {r = Shut x next} v = let e = v .is [] refl in record { is = ap (λ (d : Stop). d .0) e; behind = ap (λ (d : Stop). d .1) e; onward = v .onward }
+label-read text at a {r = Refused n p} v = let e = v .is [] refl in record { is = ap (λ (d : Stop). d .0) e; behind = ap (λ (d : Stop). d .1) e; onward = v .onward }

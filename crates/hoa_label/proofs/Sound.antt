@@ -16,10 +16,57 @@ use Rattle.hoa_tokens.specs.Token.{Token, int, word, header, str, aname, sign, 
 use Rattle.hoa_label.specs.declared.Wanted.{Wanted}
 use Rattle.hoa_label.specs.declared.Wanted.the-variants as wanted-is
 use Rattle.hoa_label.specs.declared.Behind.the-variants as behind-is
-use Rattle.hoa_label.specs.Label.{Label, conj, or, Lconj, factor, and, Lfactor, truth, falsity, prop, negated, nested,
-  labelText, conjText, factorText, labelFits, conjFits, factorFits, labelDepth, conjDepth, factorDepth, Within}
-use Rattle.hoa_label.specs.Labels.{propSet, Frame, LabelState, wants, has, labelBegin, LabelStep, go, shut, wrong, stepWithin, wanted, wantedWord, wantedSign, onWanted,
-  behind, behindSign, onBehind, isOutermost, LabelWalk, going, closed, faulty, walkBy, walkWithin}
+use Rattle.hoa_label.specs.Label.{
+  Label,
+  conj,
+  or,
+  Lconj,
+  factor,
+  and,
+  Lfactor,
+  truth,
+  falsity,
+  prop,
+  negated,
+  nested,
+  labelText,
+  conjText,
+  factorText,
+  labelFits,
+  conjFits,
+  factorFits,
+  labelDepth,
+  conjDepth,
+  factorDepth,
+  Within,
+}
+use Rattle.hoa_label.specs.Labels.{
+  propSet,
+  Frame,
+  LabelState,
+  wants,
+  has,
+  labelBegin,
+  LabelStep,
+  go,
+  shut,
+  wrong,
+  stepWithin,
+  wanted,
+  wantedWord,
+  wantedSign,
+  onWanted,
+  behind,
+  behindSign,
+  onBehind,
+  isOutermost,
+  LabelWalk,
+  going,
+  closed,
+  faulty,
+  walkBy,
+  walkWithin,
+}
 use Rattle.hoa_label.proofs.Sets.{labelSet}
 use Rattle.hoa_label.proofs.Walks.{closed-going, faulty-going, closed-faulty, going-inj, closed-set, closed-rest}
 use Rattle.hoa_label.proofs.Complete.{complete}
@@ -94,7 +141,8 @@ module _ (S D : Type 0) (levels a : ℕ) (rest : List Token) where
         deep = λ k. front-deep x (w .label) d levels (h .deep k) (w .deep k);
         after = w .after;
         text = ap (λ (us : List Token). factorText x (sign sign-is.And ∷ us)) (q ∙ w .text) ∙ sym (front-text x (w .label) (w .after));
-        shuts = w .shuts }
+        shuts = w .shuts;
+      }
   gather x {d} h (more-or y g q e) =
       let w = gather y g e in
       record {
@@ -103,7 +151,8 @@ module _ (S D : Type 0) (levels a : ℕ) (rest : List Token) where
         deep = λ k. omega (arith, h .deep k, w .deep k);
         after = w .after;
         text = ap (λ (us : List Token). factorText x (sign sign-is.Or ∷ us)) (q ∙ w .text);
-        shuts = w .shuts }
+        shuts = w .shuts;
+      }
 
   -- ---- one token in front
 
@@ -129,11 +178,11 @@ module _ (S D : Type 0) (levels a : ℕ) (rest : List Token) where
   module _ (ts : List Token) where
     -- a single token that is a factor
     lone : (y : Lfactor) (t : Token) (s : LabelState) → (S → factorFits y a) → factorDepth y ≡ 0 → t ∷ ts ≡ factorText y ts → Few (framesOf s)
-      → Ends (length (framesOf s)) ts → Factored (length (framesOf s)) (t ∷ ts)
+        → Ends (length (framesOf s)) ts → Factored (length (framesOf s)) (t ∷ ts)
     lone y t s f d q h e = record { first = y; fit = record { fits = f; deep = λ k. omega (arith, h k) }; after = ts; text = q; ends = e }
 
     by-word : (w : Word) (f : Frame) (fs : List Frame) → Few fs
-      → Next (onWanted f fs (wantedWord w)) ts → Factored (length fs) (word w ∷ ts)
+        → Next (onWanted f fs (wantedWord w)) ts → Factored (length fs) (word w ∷ ts)
     unfolding labelText labelFits labelDepth
     by-word word-is.True f fs h e = lone truth (word word-is.True) (has 0 0 fs) (λ k. tt) refl refl h (e h)
     by-word word-is.False f fs h e = lone falsity (word word-is.False) (has 0 0 fs) (λ k. tt) refl refl h (e h)
@@ -143,8 +192,8 @@ module _ (S D : Type 0) (levels a : ℕ) (rest : List Token) where
     by-word word-is.Other f fs h e = absurd e
 
     by-int : (below : Bool) (i : ℕ) (f : Frame) (fs : List Frame) → ltb i a ≡ below → Few fs
-      → Next (onWanted f fs (cond below (wanted-is.Set (propSet i)) (wanted-is.Wrong 41))) ts
-      → Factored (length fs) (int i ∷ ts)
+        → Next (onWanted f fs (cond below (wanted-is.Set (propSet i)) (wanted-is.Wrong 41))) ts
+        → Factored (length fs) (int i ∷ ts)
     unfolding labelText labelFits labelDepth
     by-int true i f fs q h e = lone (prop i) (int i) (has 0 0 fs) (λ k. ltb-true i a q) refl refl h (e h)
     by-int false i f fs q h e = absurd e
@@ -157,7 +206,8 @@ module _ (S D : Type 0) (levels a : ℕ) (rest : List Token) where
           fit = record { fits = w .fit .fits; deep = w .fit .deep };
           after = w .after;
           text = ap (λ (us : List Token). sign sign-is.Not ∷ us) (w .text);
-          ends = w .ends }
+          ends = w .ends;
+        }
 
     -- the pieces inside a `(` make a label
     bracket : {d : ℕ} → Whole (suc d) ts → Factored d (sign sign-is.ParenLeft ∷ ts)
@@ -168,19 +218,20 @@ module _ (S D : Type 0) (levels a : ℕ) (rest : List Token) where
           fit = record { fits = w .fits; deep = λ k. omega (arith, w .deep k) };
           after = w .shuts .0;
           text = ap (λ (us : List Token). sign sign-is.ParenLeft ∷ us) (w .text ∙ ap (labelText (w .label)) (w .shuts .1 .0));
-          ends = w .shuts .1 .1 }
+          ends = w .shuts .1 .1;
+        }
 
     pub whole : {d : ℕ} → Factored d ts → Whole d ts
     whole w = rw (w .text) (gather (w .first) (w .fit) (w .ends))
 
     by-level : (room : Bool) (f : Frame) (fs : List Frame) → ltb (length fs) levels ≡ room
-      → Next (onWanted f fs (cond room wanted-is.Deeper (wanted-is.Wrong 42))) ts
-      → Factored (length fs) (sign sign-is.ParenLeft ∷ ts)
+        → Next (onWanted f fs (cond room wanted-is.Deeper (wanted-is.Wrong 42))) ts
+        → Factored (length fs) (sign sign-is.ParenLeft ∷ ts)
     by-level true f fs q e = bracket (whole (e (λ k. ltb-true (length fs) levels q)))
     by-level false f fs q e = absurd e
 
     by-sign : (s : Sign) (f : Frame) (fs : List Frame) → Few fs
-      → Next (onWanted f fs (wantedSign (ltb (length fs) levels) s)) ts → Factored (length fs) (sign s ∷ ts)
+        → Next (onWanted f fs (wantedSign (ltb (length fs) levels) s)) ts → Factored (length fs) (sign s ∷ ts)
     by-sign sign-is.ParenLeft f fs h e = by-level (ltb (length fs) levels) f fs refl e
     by-sign sign-is.Not f fs h e = flip (e h)
     by-sign sign-is.ParenRight f fs h e = absurd e
@@ -193,7 +244,7 @@ module _ (S D : Type 0) (levels a : ℕ) (rest : List Token) where
 
     -- where a factor is wanted
     front-wants : (t : Token) (f : Frame) (fs : List Frame) → Few fs
-      → Next (onWanted f fs (wanted a (ltb (length fs) levels) t)) ts → Factored (length fs) (t ∷ ts)
+        → Next (onWanted f fs (wanted a (ltb (length fs) levels) t)) ts → Factored (length fs) (t ∷ ts)
     unfolding wanted
     front-wants (int i) f fs h e = by-int (ltb i a) i f fs refl h e
     front-wants (word w) f fs h e = by-word w f fs h e
@@ -208,19 +259,19 @@ module _ (S D : Type 0) (levels a : ℕ) (rest : List Token) where
     front-wants bad f fs h e = absurd e
 
     by-paren : (o k : ℕ) (fs : List Frame) → Few fs
-      → Next (onBehind o k fs (behindSign (isOutermost fs) sign-is.ParenRight)) ts
-      → Ends (length fs) (sign sign-is.ParenRight ∷ ts)
+        → Next (onBehind o k fs (behindSign (isOutermost fs) sign-is.ParenRight)) ts
+        → Ends (length fs) (sign sign-is.ParenRight ∷ ts)
     by-paren o k [] h e = absurd e
     by-paren o k (f ∷ fs) h e = out (e (λ k. omega (arith, h k)))
 
     by-bracket : (o k : ℕ) (fs : List Frame)
-      → Next (onBehind o k fs (behindSign (isOutermost fs) sign-is.BracketRight)) ts
-      → Ends (length fs) (sign sign-is.BracketRight ∷ ts)
+        → Next (onBehind o k fs (behindSign (isOutermost fs) sign-is.BracketRight)) ts
+        → Ends (length fs) (sign sign-is.BracketRight ∷ ts)
     by-bracket o k [] e = rw e last
     by-bracket o k (f ∷ fs) e = absurd e
 
     behind-sign : (s : Sign) (o k : ℕ) (fs : List Frame) → Few fs
-      → Next (onBehind o k fs (behindSign (isOutermost fs) s)) ts → Ends (length fs) (sign s ∷ ts)
+        → Next (onBehind o k fs (behindSign (isOutermost fs) s)) ts → Ends (length fs) (sign s ∷ ts)
     behind-sign sign-is.And o k fs h e = let w = e h in more-and (w .first) (w .fit) (w .text) (w .ends)
     behind-sign sign-is.Or o k fs h e = let w = e h in more-or (w .first) (w .fit) (w .text) (w .ends)
     behind-sign sign-is.ParenRight o k fs h e = by-paren o k fs h e
@@ -233,7 +284,7 @@ module _ (S D : Type 0) (levels a : ℕ) (rest : List Token) where
 
     -- behind a factor
     front-has : (t : Token) (o k : ℕ) (fs : List Frame) → Few fs
-      → Next (onBehind o k fs (behind (isOutermost fs) t)) ts → Ends (length fs) (t ∷ ts)
+        → Next (onBehind o k fs (behind (isOutermost fs) t)) ts → Ends (length fs) (t ∷ ts)
     unfolding behind
     front-has (sign s) o k fs h e = behind-sign s o k fs h e
     front-has (int i) o k fs h e = absurd e
@@ -248,7 +299,7 @@ module _ (S D : Type 0) (levels a : ℕ) (rest : List Token) where
     front-has bad o k fs h e = absurd e
 
     front-any : (t : Token) (s : LabelState) → Few (framesOf s)
-      → Next (stepWithin levels a s t) ts → Rests s (t ∷ ts)
+        → Next (stepWithin levels a s t) ts → Rests s (t ∷ ts)
     unfolding stepWithin
     front-any t (wants f fs) h e = front-wants t f fs h e
     front-any t (has o k fs) h e = front-has t o k fs h e
@@ -256,22 +307,22 @@ module _ (S D : Type 0) (levels a : ℕ) (rest : List Token) where
   -- ---- many tokens in front
 
   on-going : (u : LabelState) (ts us : List Token) (d : LabelStep)
-    → ((s : LabelState) → walkWithin levels a s ts ≡ going u → Few (framesOf s) → Rests s (ts ++ us))
-    → walkBy d ts (λ s. walkWithin levels a s ts) ≡ going u → Next d (ts ++ us)
+      → ((s : LabelState) → walkWithin levels a s ts ≡ going u → Few (framesOf s) → Rests s (ts ++ us))
+      → walkBy d ts (λ s. walkWithin levels a s ts) ≡ going u → Next d (ts ++ us)
   on-going u ts us (go s) more e = more s e
   on-going u ts us (shut x) more e = closed-going e
   on-going u ts us (wrong n) more e = faulty-going e
 
   -- tokens that lead to a state stand in front of what leads on from it
   pub pull : (u : LabelState) (us : List Token) → (Few (framesOf u) → Rests u us)
-    → (ts : List Token) (s : LabelState) → walkWithin levels a s ts ≡ going u → Few (framesOf s) → Rests s (ts ++ us)
+      → (ts : List Token) (s : LabelState) → walkWithin levels a s ts ≡ going u → Few (framesOf s) → Rests s (ts ++ us)
   unfolding walkWithin
   pull u us r [] s e h = subst (λ (v : LabelState). Few (framesOf v) → Rests v us) (sym (going-inj e)) r h
   pull u us r (t ∷ ts) s e h = front-any (ts ++ us) t s h (on-going u ts us (stepWithin levels a s t) (pull u us r ts) e)
 
   on-closed : (x : ℕ) (ts : List Token) (d : LabelStep)
-    → ((s : LabelState) → walkWithin levels a s ts ≡ closed x rest → Few (framesOf s) → Rests s ts)
-    → walkBy d ts (λ s. walkWithin levels a s ts) ≡ closed x rest → Next d ts
+      → ((s : LabelState) → walkWithin levels a s ts ≡ closed x rest → Few (framesOf s) → Rests s ts)
+      → walkBy d ts (λ s. walkWithin levels a s ts) ≡ closed x rest → Next d ts
   on-closed x ts (go s) more e = more s e
   on-closed x ts (shut y) more e = closed-rest e
   on-closed x ts (wrong n) more e = closed-faulty (sym e)
@@ -299,4 +350,5 @@ sound levels a x ts rest e =
       label = w .label;
       within = i;
       text = t;
-      set = closed-set (sym e ∙ ap (walkWithin levels a labelBegin) t ∙ complete levels a (w .label) rest i) }
+      set = closed-set (sym e ∙ ap (walkWithin levels a labelBegin) t ∙ complete levels a (w .label) rest i);
+    }

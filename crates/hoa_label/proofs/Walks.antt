@@ -33,9 +33,9 @@ faulty-inj e = cc
 
 module _ (levels a : ℕ) where
   on-step : (d : LabelStep) (t : LabelState) (ts us : List Token)
-    → ((u : LabelState) → walkWithin levels a u ts ≡ going t → walkWithin levels a u (ts ++ us) ≡ walkWithin levels a t us)
-    → walkBy d ts (λ u. walkWithin levels a u ts) ≡ going t
-    → walkBy d (ts ++ us) (λ u. walkWithin levels a u (ts ++ us)) ≡ walkWithin levels a t us
+      → ((u : LabelState) → walkWithin levels a u ts ≡ going t → walkWithin levels a u (ts ++ us) ≡ walkWithin levels a t us)
+      → walkBy d ts (λ u. walkWithin levels a u ts) ≡ going t
+      → walkBy d (ts ++ us) (λ u. walkWithin levels a u (ts ++ us)) ≡ walkWithin levels a t us
   on-step (go u) t ts us more e = more u e
   on-step (shut x) t ts us more e = closed-going e
   on-step (wrong n) t ts us more e = faulty-going e
@@ -47,9 +47,9 @@ module _ (levels a : ℕ) where
   walk-on s t (x ∷ ts) us e = on-step (stepWithin levels a s x) t ts us (λ u. walk-on u t ts us) e
 
   stop-step : (d : LabelStep) (n : ℕ) (ts us : List Token)
-    → ((u : LabelState) → walkWithin levels a u ts ≡ faulty n → walkWithin levels a u (ts ++ us) ≡ faulty n)
-    → walkBy d ts (λ u. walkWithin levels a u ts) ≡ faulty n
-    → walkBy d (ts ++ us) (λ u. walkWithin levels a u (ts ++ us)) ≡ faulty n
+      → ((u : LabelState) → walkWithin levels a u ts ≡ faulty n → walkWithin levels a u (ts ++ us) ≡ faulty n)
+      → walkBy d ts (λ u. walkWithin levels a u ts) ≡ faulty n
+      → walkBy d (ts ++ us) (λ u. walkWithin levels a u (ts ++ us)) ≡ faulty n
   stop-step (go u) n ts us more e = more u e
   stop-step (shut x) n ts us more e = closed-faulty e
   stop-step (wrong m) n ts us more e = e
@@ -62,6 +62,6 @@ module _ (levels a : ℕ) where
 
   -- behind tokens that go on, one token more
   pub walk-one : (s t : LabelState) (ts : List Token) (x : Token) → walkWithin levels a s ts ≡ going t
-    → walkWithin levels a s (ts ++ x ∷ []) ≡ walkBy (stepWithin levels a t x) [] going
+      → walkWithin levels a s (ts ++ x ∷ []) ≡ walkBy (stepWithin levels a t x) [] going
   unfolding walkWithin
   walk-one s t ts x e = walk-on s t ts (x ∷ []) e

@@ -214,3 +214,13 @@ endBy (wrong n) place ps more = wrongAt n place
 unfoldable pub labelRun : ℕ → LabelState → List Placed → LabelEnd
 labelRun a s [] = cut
 labelRun a s (p ∷ ps) = endBy (labelStep a s (p .token)) (p .place) ps (λ t. labelRun a t ps)
+
+abbrev pub nextBy : LabelStep → ℕ → (LabelState → ℕ) → ℕ
+nextBy (go s) next more = more s
+nextBy (shut x) next more = next
+nextBy (wrong n) next more = 0
+
+-- the byte behind the token that shuts the label; 0 where none does
+unfoldable pub labelNext : ℕ → LabelState → List Placed → ℕ
+labelNext a s [] = 0
+labelNext a s (p ∷ ps) = nextBy (labelStep a s (p .token)) (p .next) (λ t. labelNext a t ps)

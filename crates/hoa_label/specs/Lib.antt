@@ -2,5 +2,7 @@
 pub mod Label
 -- Labels: which token of a label is admitted, one at a time
 pub mod Labels
--- Reading: what the functions that read a label give
+-- Reading: what reading a label gives
 pub mod Reading
+-- inner: what the private functions promise
+pub mod inner

@@ -1,13 +1,17 @@
 // Labels of the Hanoi format (docs/RULES.md, "The Hanoi format"): a label behind its `[`, read as a 64-bit set of valuations. Relies on `hoa_tokens`.
 // What a label is, which tokens are admitted and what the set means is in specs/.
-use hoa_tokens::{token_at, Kind, Sign, Word};
+use hoa_tokens::Kind;
+use hoa_tokens::Sign;
+use hoa_tokens::Word;
+use hoa_tokens::token_at;
 ghost use mathlib.Core.Path.{_≡_};
 ghost use mathlib.Core.List.{List};
 ghost use Prim.Native.Nat.{ℕ, _≤_};
 ghost use Rattle.hoa_tokens.specs.Stream.{tokenOf};
 ghost use Rattle.hoa_label.specs.Labels.{propSet, turned, wantedWord, wantedSign, wanted, behindSign, behind};
 ghost use Rattle.hoa_label.specs.Label.{mostLevels};
-ghost use Rattle.hoa_label.specs.Reading.{flippedRead, FactorAt, LevelAt, LabelAt};
+ghost use Rattle.hoa_label.specs.Reading.{LabelAt};
+ghost use Rattle.hoa_label.specs.inner.Levels.{flippedRead, FactorAt, LevelAt};
 
 // What a token is where a factor is wanted: a factor with its valuations, `!`, `(`, or a fault.
 pub enum Wanted {
@@ -30,6 +34,13 @@ pub enum LabelRead {
     Shut { set: u64, next: usize },
     Refused { number: u32, place: usize },
 }
+
+// The numbers of a fault: no label begins so; none of the subset does; a limit is passed.
+const SYNTAX: u32 = 40;
+
+const SUBSET: u32 = 41;
+
+const LIMIT: u32 = 42;
 
 // Brackets nest at most so deep: a limit of ours, since `level` calls itself for each.
 const MOST_LEVELS: u32 = 256;
@@ -75,7 +86,7 @@ fn wanted_word(word: Word) -> Wanted
     match word {
         Word::True => Wanted::Set(FULL),
         Word::False => Wanted::Set(0),
-        _ => Wanted::Wrong(40),
+        _ => Wanted::Wrong(SYNTAX),
     }
 }
 
@@ -89,9 +100,9 @@ fn wanted_sign(sign: Sign, room: bool) -> Wanted
             if room {
                 return Wanted::Deeper;
             }
-            Wanted::Wrong(42)
+            Wanted::Wrong(LIMIT)
         }
-        _ => Wanted::Wrong(40),
+        _ => Wanted::Wrong(SYNTAX),
     }
 }
 
@@ -104,13 +115,13 @@ fn wanted_token(kind: Kind, a: u32, room: bool) -> Wanted
             if i < a {
                 return Wanted::Set(prop_set(i));
             }
-            Wanted::Wrong(41)
+            Wanted::Wrong(SUBSET)
         }
         Kind::Word(word) => wanted_word(word),
         Kind::Sign(sign) => wanted_sign(sign, room),
-        Kind::Alias => Wanted::Wrong(41),
-        Kind::Abort => Wanted::Wrong(41),
-        _ => Wanted::Wrong(40),
+        Kind::Alias => Wanted::Wrong(SUBSET),
+        Kind::Abort => Wanted::Wrong(SUBSET),
+        _ => Wanted::Wrong(SYNTAX),
     }
 }
 
@@ -123,7 +134,7 @@ fn behind_sign(sign: Sign, outermost: bool) -> Behind
         Sign::Or => Behind::Or,
         Sign::ParenRight => {
             if outermost {
-                return Behind::Wrong(40);
+                return Behind::Wrong(SYNTAX);
             }
             Behind::Shut
         }
@@ -131,9 +142,9 @@ fn behind_sign(sign: Sign, outermost: bool) -> Behind
             if outermost {
                 return Behind::Shut;
             }
-            Behind::Wrong(40)
+            Behind::Wrong(SYNTAX)
         }
-        _ => Behind::Wrong(40),
+        _ => Behind::Wrong(SYNTAX),
     }
 }
 
@@ -143,8 +154,8 @@ fn behind_token(kind: Kind, outermost: bool) -> Behind
 {
     match kind {
         Kind::Sign(sign) => behind_sign(sign, outermost),
-        Kind::Abort => Behind::Wrong(41),
-        _ => Behind::Wrong(40),
+        Kind::Abort => Behind::Wrong(SUBSET),
+        _ => Behind::Wrong(SYNTAX),
     }
 }
 
@@ -209,7 +220,7 @@ fn level(text: &[u8], at: usize, a: u32, depth: u32) -> LabelRead
             LabelRead::Shut { set, next } => {
                 let met = ands & set;
                 let found = token_at(text, next);
-                let first = found.first;
+                let place = found.first;
                 let kind = found.kind;
                 from = found.next;
                 match behind_token(kind, depth == 0) {
@@ -224,12 +235,7 @@ fn level(text: &[u8], at: usize, a: u32, depth: u32) -> LabelRead
                             next: from,
                         };
                     }
-                    Behind::Wrong(number) => {
-                        return LabelRead::Refused {
-                            number,
-                            place: first,
-                        };
-                    }
+                    Behind::Wrong(number) => return LabelRead::Refused { number, place },
                 }
             }
         }

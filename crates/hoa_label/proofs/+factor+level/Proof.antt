@@ -11,8 +11,22 @@ use borrow.Fn.Kinds.{In}
 use borrow.Fn.PlainCycle.{Measures, is, falls, and}
 use Rattle.hoa_label.specs.Label.{mostLevels}
 use Rattle.hoa_label.specs.Labels.{full}
-use Rattle.hoa_label.proofs.Runs.{Flips, not-again, not-less, set-read, level-read, wrong-read, room-left, Joins, factor-wrong, level-less, and-again, or-again,
-  shut-read, behind-wrong}
+use Rattle.hoa_label.proofs.Runs.{
+  Flips,
+  not-again,
+  not-less,
+  set-read,
+  level-read,
+  wrong-read,
+  room-left,
+  Joins,
+  factor-wrong,
+  level-less,
+  and-again,
+  or-again,
+  shut-read,
+  behind-wrong,
+}
 use Rattle.hoa_label.proofs.behind_token.Reads as behind-token-reads
 use Rattle.hoa_label.proofs.flip.Reads as flip-reads
 use Rattle.hoa_tokens.proofs.token_at.Reads as token-at-reads
@@ -92,12 +106,16 @@ factor-enum-told t c = search needs
 
 factor-loop-less : (t : ℕ) → factor-lts.Need-loop-less (factor-calls t) (factor-at t) factor.Post factor-Inv-loop factor-μ-loop
 factor-loop-less t c =
-    let d = not-less _ _ (c .before .before .before .before .loop .inv) (c .before .before .before .token-at .ensures) (c .before .before .wanted-token .ensures) (c .enum-told .given .1) in
-    omega (arith, d)
+    let at-token = c .before .before in
+    let at-loop = at-token .before .before in
+    let l = not-less _ _ (at-loop .loop .inv) (at-token .before .token-at .ensures) (at-token .wanted-token .ensures) (c .enum-told .given .1) in
+    omega (arith, l)
 
 factor-loop-again : (t : ℕ) → factor-lts.Need-loop-again (factor-calls t) (factor-at t) factor.Post factor-Inv-loop factor-μ-loop
 factor-loop-again t c =
-    not-again _ _ (c .before .before .before .before .loop .inv) (c .before .before .before .token-at .ensures) (c .before .before .wanted-token .ensures) (c .enum-told .given .1)
+    let at-token = c .before .before in
+    let at-loop = at-token .before .before in
+    not-again _ _ (at-loop .loop .inv) (at-token .before .token-at .ensures) (at-token .wanted-token .ensures) (c .enum-told .given .1)
 
 factor-enum-known-set : (t : ℕ) → factor-lts.Need-enum-known-set (factor-calls t) (factor-at t) factor.Post factor-Inv-loop factor-μ-loop
 factor-enum-known-set t c = search needs
@@ -107,7 +125,9 @@ factor-turn-requires t c κs = search needs
 
 factor-returns : (t : ℕ) → factor-lts.Need-returns (factor-calls t) (factor-at t) factor.Post factor-Inv-loop factor-μ-loop
 factor-returns t c =
-    set-read _ _ (c .before .before .before .before .before .before .loop .inv) (c .before .before .before .before .before .token-at .ensures) (c .before .before .before .before .wanted-token .ensures) (c .before .before .set .given .1) (c .turn .ensures)
+    let at-token = c .before .before .before .before in
+    let at-loop = at-token .before .before in
+    set-read _ _ (at-loop .loop .inv) (at-token .before .token-at .ensures) (at-token .wanted-token .ensures) (c .before .before .set .given .1) (c .turn .ensures)
 
 factor-enum-told-2 : (t : ℕ) → factor-lts.Need-enum-told-2 (factor-calls t) (factor-at t) factor.Post factor-Inv-loop factor-μ-loop
 factor-enum-told-2 t c = search needs
@@ -119,8 +139,8 @@ factor-level-requires : (t : ℕ) → factor-lts.Need-level-requires (factor-cal
 factor-level-requires t c κs =
     let at-entry = c .before .before .before .before .before .before in
     let l =
-        room-left [] (at-entry .args .a) (at-entry .args .depth) (c .before .before .before .token-at .result .kind) (c .before .before .wanted-token .ensures)
-        (c .enum-told2 .given .1) in
+    room-left [] (at-entry .args .a) (at-entry .args .depth) (c .before .before .before .token-at .result .kind) (c .before .before .wanted-token .ensures)
+    (c .enum-told2 .given .1) in
     omega (arith, l)
 
 factor-flip-requires : (t : ℕ) → factor-lts.Need-flip-requires (factor-calls t) (factor-at t) factor.Post factor-Inv-loop factor-μ-loop
@@ -128,15 +148,19 @@ factor-flip-requires t c κs = search needs
 
 factor-returns-2 : (t : ℕ) → factor-lts.Need-returns-2 (factor-calls t) (factor-at t) factor.Post factor-Inv-loop factor-μ-loop
 factor-returns-2 t c =
-    level-read _ _ (c .before .before .before .before .before .before .loop .inv) (c .before .before .before .before .before .token-at .ensures) (c .before .before .before .before .wanted-token .ensures) (c .before .before .enum-told2 .given .1) (c .before .level .ensures)
-    (c .flip .ensures)
+    let at-token = c .before .before .before .before in
+    let at-loop = at-token .before .before in
+    level-read _ _ (at-loop .loop .inv) (at-token .before .token-at .ensures) (at-token .wanted-token .ensures) (c .before .before .enum-told2 .given .1)
+    (c .before .level .ensures) (c .flip .ensures)
 
 factor-enum-known-number : (t : ℕ) → factor-lts.Need-enum-known-number (factor-calls t) (factor-at t) factor.Post factor-Inv-loop factor-μ-loop
 factor-enum-known-number t c = search needs
 
 factor-returns-3 : (t : ℕ) → factor-lts.Need-returns-3 (factor-calls t) (factor-at t) factor.Post factor-Inv-loop factor-μ-loop
 factor-returns-3 t c =
-    wrong-read _ _ (c .before .before .before .before .before .loop .inv) (c .before .before .before .before .token-at .ensures) (c .before .before .before .wanted-token .ensures) (c .before .number .given .1)
+    let at-token = c .before .before .before in
+    let at-loop = at-token .before .before in
+    wrong-read _ _ (at-loop .loop .inv) (at-token .before .token-at .ensures) (at-token .wanted-token .ensures) (c .before .number .given .1)
 
 -- ---- a level
 
@@ -157,7 +181,9 @@ level-enum-known-number : (t : ℕ) → level-lts.Need-enum-known-number (level-
 level-enum-known-number t c = search needs
 
 level-returns : (t : ℕ) → level-lts.Need-returns (level-calls t) (level-at t) level.Post level-Inv-loop level-μ-loop
-level-returns t c = factor-wrong _ _ (c .before .before .before .before .loop .inv) (c .before .before .before .factor .ensures) (c .before .number .given .1)
+level-returns t c =
+    let at-loop = c .before .before .before .before in
+    factor-wrong _ _ (at-loop .loop .inv) (c .before .before .before .factor .ensures) (c .before .number .given .1)
 
 level-enum-known-set : (t : ℕ) → level-lts.Need-enum-known-set (level-calls t) (level-at t) level.Post level-Inv-loop level-μ-loop
 level-enum-known-set t c = search needs
@@ -173,39 +199,65 @@ level-enum-told t c = search needs
 
 level-loop-less : (t : ℕ) → level-lts.Need-loop-less (level-calls t) (level-at t) level.Post level-Inv-loop level-μ-loop
 level-loop-less t c =
-    let d = level-less _ _ (c .before .before .before .before .before .before .before .before .loop .inv) (c .before .before .before .before .before .before .before .factor .ensures) (c .before .before .before .before .before .set .given .1) (c .before .before .before .token-at .ensures) (c .before .before .behind-token .ensures) in
-    omega (arith, d)
+    let at-mark = c .before .before in
+    let at-factor = at-mark .before .before .before in
+    let at-loop = at-factor .before .before .before in
+    let l =
+    level-less _ _ (at-loop .loop .inv) (at-factor .before .before .factor .ensures) (at-factor .set .given .1) (at-mark .before .token-at .ensures)
+    (at-mark .behind-token .ensures) in
+    omega (arith, l)
 
 level-loop-again : (t : ℕ) → level-lts.Need-loop-again (level-calls t) (level-at t) level.Post level-Inv-loop level-μ-loop
 level-loop-again t c =
-    and-again _ _ (c .before .before .before .before .before .before .before .before .loop .inv) (c .before .before .before .before .before .before .before .factor .ensures) (c .before .before .before .before .before .set .given .1) (c .before .before .before .token-at .ensures) (c .before .before .behind-token .ensures) (c .enum-told .given .1)
+    let at-mark = c .before .before in
+    let at-factor = at-mark .before .before .before in
+    let at-loop = at-factor .before .before .before in
+    and-again _ _ (at-loop .loop .inv) (at-factor .before .before .factor .ensures) (at-factor .set .given .1) (at-mark .before .token-at .ensures)
+    (at-mark .behind-token .ensures) (c .enum-told .given .1)
 
 level-enum-told-2 : (t : ℕ) → level-lts.Need-enum-told-2 (level-calls t) (level-at t) level.Post level-Inv-loop level-μ-loop
 level-enum-told-2 t c = search needs
 
 level-loop-less-2 : (t : ℕ) → level-lts.Need-loop-less-2 (level-calls t) (level-at t) level.Post level-Inv-loop level-μ-loop
 level-loop-less-2 t c =
-    let d = level-less _ _ (c .before .before .before .before .before .before .before .before .loop .inv) (c .before .before .before .before .before .before .before .factor .ensures) (c .before .before .before .before .before .set .given .1) (c .before .before .before .token-at .ensures) (c .before .before .behind-token .ensures) in
-    omega (arith, d)
+    let at-mark = c .before .before in
+    let at-factor = at-mark .before .before .before in
+    let at-loop = at-factor .before .before .before in
+    let l =
+    level-less _ _ (at-loop .loop .inv) (at-factor .before .before .factor .ensures) (at-factor .set .given .1) (at-mark .before .token-at .ensures)
+    (at-mark .behind-token .ensures) in
+    omega (arith, l)
 
 level-loop-again-2 : (t : ℕ) → level-lts.Need-loop-again-2 (level-calls t) (level-at t) level.Post level-Inv-loop level-μ-loop
 unfolding full
 level-loop-again-2 t c =
-    or-again _ _ (c .before .before .before .before .before .before .before .before .loop .inv) (c .before .before .before .before .before .before .before .factor .ensures) (c .before .before .before .before .before .set .given .1) (c .before .before .before .token-at .ensures) (c .before .before .behind-token .ensures) (c .enum-told2 .given .1) refl refl
+    let at-mark = c .before .before in
+    let at-factor = at-mark .before .before .before in
+    let at-loop = at-factor .before .before .before in
+    or-again _ _ (at-loop .loop .inv) (at-factor .before .before .factor .ensures) (at-factor .set .given .1) (at-mark .before .token-at .ensures)
+    (at-mark .behind-token .ensures) (c .enum-told2 .given .1) refl refl
 
 level-enum-told-3 : (t : ℕ) → level-lts.Need-enum-told-3 (level-calls t) (level-at t) level.Post level-Inv-loop level-μ-loop
 level-enum-told-3 t c = search needs
 
 level-returns-2 : (t : ℕ) → level-lts.Need-returns-2 (level-calls t) (level-at t) level.Post level-Inv-loop level-μ-loop
 level-returns-2 t c =
-    shut-read _ _ (c .before .before .before .before .before .before .before .before .loop .inv) (c .before .before .before .before .before .before .before .factor .ensures) (c .before .before .before .before .before .set .given .1) (c .before .before .before .token-at .ensures) (c .before .before .behind-token .ensures) (c .enum-told3 .given .1)
+    let at-mark = c .before .before in
+    let at-factor = at-mark .before .before .before in
+    let at-loop = at-factor .before .before .before in
+    shut-read _ _ (at-loop .loop .inv) (at-factor .before .before .factor .ensures) (at-factor .set .given .1) (at-mark .before .token-at .ensures)
+    (at-mark .behind-token .ensures) (c .enum-told3 .given .1)
 
 level-enum-known-number-2 : (t : ℕ) → level-lts.Need-enum-known-number-2 (level-calls t) (level-at t) level.Post level-Inv-loop level-μ-loop
 level-enum-known-number-2 t c = search needs
 
 level-returns-3 : (t : ℕ) → level-lts.Need-returns-3 (level-calls t) (level-at t) level.Post level-Inv-loop level-μ-loop
 level-returns-3 t c =
-    behind-wrong _ _ (c .before .before .before .before .before .before .before .before .before .loop .inv) (c .before .before .before .before .before .before .before .before .factor .ensures) (c .before .before .before .before .before .before .set .given .1) (c .before .before .before .before .token-at .ensures) (c .before .before .before .behind-token .ensures) (c .before .number2 .given .1)
+    let at-mark = c .before .before .before in
+    let at-factor = at-mark .before .before .before in
+    let at-loop = at-factor .before .before .before in
+    behind-wrong _ _ (at-loop .loop .inv) (at-factor .before .before .factor .ensures) (at-factor .set .given .1) (at-mark .before .token-at .ensures)
+    (at-mark .behind-token .ensures) (c .before .number2 .given .1)
 
 pub +factor+level-spec : {M : Type 1} → statement M
 +factor+level-spec = close μ-factor μ-level (λ t. factor-lts.spec (factor-calls t) (factor-at t) factor.Post factor-Inv-loop factor-μ-loop

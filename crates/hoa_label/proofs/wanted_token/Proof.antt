@@ -50,4 +50,21 @@ returns-7 : tie.Need-returns-7
 returns-7 c = λ text p q. other-kind _ _ text p q (c .before .args .kind) (c .match .keys6)
 
 pub wanted-token-spec : {M : Type 1} → statement M
-wanted-token-spec = tie.close (tie.spec enum-known-kind prop-set-requires returns enum-known-kind-2 wanted-word-requires enum-known-kind-3 wanted-sign-requires enum-told enum-told-2 returns-2 returns-3 returns-4 returns-5 returns-6 returns-7)
+wanted-token-spec =
+    tie.close
+    (tie.spec
+    enum-known-kind
+    prop-set-requires
+    returns
+    enum-known-kind-2
+    wanted-word-requires
+    enum-known-kind-3
+    wanted-sign-requires
+    enum-told
+    enum-told-2
+    returns-2
+    returns-3
+    returns-4
+    returns-5
+    returns-6
+    returns-7)

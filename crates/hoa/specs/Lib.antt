@@ -2,3 +2,5 @@
 pub mod Reading
 -- Returned: what comes back, and what the lent tables hold
 pub mod Returned
+-- inner: what private contracts go by
+pub mod inner

@@ -140,7 +140,7 @@ fit-leaving n c q [] h = tt
 fit-leaving n c q (e ∷ es) h =
     byTest (eqb (e .from) q) (λ t. rw t (h .0, fit-leaving n c q es (h .1))) (λ t. rw t (fit-leaving n c q es (h .1)))
 
-fit-sorted : (n c q : ℕ) (es : List Edge) → AllFit n c es → AllFit n c (sorted q es)
+pub fit-sorted : (n c q : ℕ) (es : List Edge) → AllFit n c es → AllFit n c (sorted q es)
 fit-sorted n c zero es h = tt
 fit-sorted n c (suc q) es h = fit-append n c (sorted q es) (leaving q es) (fit-sorted n c q es h) (fit-leaving n c q es h)
 
@@ -177,7 +177,7 @@ below-sorted : (n : ℕ) (es : List Edge) → Below n (sorted n es)
 below-sorted zero es = tt
 below-sorted (suc n) es = below-append (suc n) (sorted n es) (leaving n es) (below-more n (sorted n es) (below-sorted n es)) (below-leaving n es)
 
-ascends-sorted : (n : ℕ) (es : List Edge) → Ascends 0 (sorted n es)
+pub ascends-sorted : (n : ℕ) (es : List Edge) → Ascends 0 (sorted n es)
 ascends-sorted zero es = tt
 ascends-sorted (suc n) es =
     ascends-append n 0 (sorted n es) (leaving n es) (omega arith) (below-sorted n es) (ascends-sorted n es) (λ q l. ascends-leaving n q es l)

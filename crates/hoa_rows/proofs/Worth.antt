@@ -468,7 +468,11 @@ none-good l =
     few-none Not = tt
     few-none (Value n) = omega arith
 
--- what is read is a table's worth
+-- what is read is a table's worth, whatever tokens it is read from
+pub worth-of : (l : Limits) (ps : List Placed) (k : Kept) (qs : List Placed) → run (rowStep l) ps (entries (noRows (l .start))) ≡ doneAt k qs → Worth l k
+worth-of l ps k qs e = rw e at (run-good l ps (entries (noRows (l .start))) (none-good l))
+
+-- .. behind `--BODY--` at a place of a text
 pub worth : (l : Limits) (text : List ℕ) (at : ℕ) (k : Kept) (ps : List Placed) → rowsEnd l text at ≡ doneAt k ps → Worth l k
 unfolding rowsEnd
-worth l text at k ps e = rw e at (run-good l (tokensAt text at) (entries (noRows (l .start))) (none-good l))
+worth l text at k ps e = worth-of l (tokensAt text at) k ps e

@@ -4,26 +4,24 @@ use mathlib.Core.Bool.{false}
 use mathlib.Core.List.{List, [], _∷_, _++_}
 use Prim.Native.Nat.{ℕ, zero, suc, _+_, _-_, _^_, _≤_, _<_}
 use native.Mathlib.Omega.{arith}
-use lib.ListN.{length, getD, replicate, length-map, length-replicate}
+use lib.ListN.{length, getD, replicate, length-replicate}
 use Rattle.table.specs.declared.Acceptance.{Acceptance}
 use Rattle.table.specs.declared.Acceptance.the-variants.{Buchi, Streett, Rabin}
 use Rattle.table.specs.declared.Finding.{Finding}
 use Rattle.table.specs.declared.Finding.the-variants.{Sound, Refused}
 use Rattle.table.specs.declared.Verdict.{Verdict}
 use Rattle.table.specs.declared.Verdict.the-variants.{Run, Empty, Refused as RefusedVerdict}
-use Rattle.table.specs.Table.{Table, Walk}
+use Rattle.table.specs.Table.{Table, lent, Walk}
 use Rattle.table.specs.Verdict.{numberOf, placeOf, pairOf}
 use Rattle.table.specs.Refusal.{wrongCondition, refusal}
 use Rattle.table.proofs.Sound.{rabin-few}
 use Rattle.table.proofs.Door.{refused-row}
 use Rattle.marks.proofs.Cases.{below}
-use Rattle.job_text.specs.Value.{Edge}
-use Rattle.job_text.specs.Job.{mostJobEdges, Job}
+use Rattle.job_text.specs.Job.{mostJobEdges}
 use Rattle.job_text.specs.Printed.{answerText, mostPrinted}
 use Rattle.job_text.proofs.Room.{enough}
 use Rattle.judging.specs.Answer.{Given, Named, ByCause}
-use Rattle.judge_text.specs.Replied.{jobTable, lentRoom, refusedText}
-use Rattle.judge_text.proofs.Limits.{Limited}
+use Rattle.judge_text.specs.Replied.{lentRoom, refusedText}
 use Rattle.judge_text.proofs.Lent.{permitted}
 
 -- ---- cells that are edge numbers
@@ -96,23 +94,21 @@ module _ (t : Table) (c : Acceptance) (needs : List ℕ) (few : t .edges ≤ mos
   }
   given-slight (RefusedVerdict number place) w G = absurd (G .decided)
 
--- what the judge answers on a job, lent so much room
-module _ (j : Job) (L : Limited j) (room room' scratch scratch' : List ℕ) (is-room : room ≡ replicate lentRoom 0) where
-  few : jobTable j .edges ≤ mostJobEdges
-  few = omega (arith, L .edges, length-map (j .edges) (λ (e : Edge). e .from))
-
+-- what the judge answers on a table within a job's limits, lent so much room
+module _ (n start : ℕ) (from to marks : List ℕ) (c : Acceptance) (needs : List ℕ) (few : length from ≤ mostJobEdges) (room room' scratch scratch' : List ℕ)
+    (is-room : room ≡ replicate lentRoom 0) where
   long : length room ≤ lentRoom
   long = omega (arith, ap length is-room, length-replicate {A = ℕ} lentRoom 0)
 
-  cause-slight : (f : Finding) (v : Verdict) → refusal (jobTable j) (j .condition) (j .needs) ≡ f
-      → ByCause f (jobTable j) (j .condition) (j .needs) room room' scratch scratch' v → Slight v room'
+  cause-slight : (f : Finding) (v : Verdict) → refusal (lent n start from to marks) c needs ≡ f
+      → ByCause f (lent n start from to marks) c needs room room' scratch scratch' v → Slight v room'
   cause-slight Sound v e G =
-      given-slight (jobTable j) (j .condition) (j .needs) few long v (permitted j e) G
+      given-slight (lent n start from to marks) c needs few long v (permitted n start from to marks c needs e) G
   cause-slight (Refused number place) v e K =
-      let row = refused-row (jobTable j) (j .condition) (j .needs) number place e in
+      let row = refused-row (lent n start from to marks) c needs number place e in
       let place-few : place < 2 ^ 32 = below number 5 (λ l. omega (arith, row .whole (omega arith))) (λ l. omega (arith, row .edge l, few)) in
       rw (K .says, K .room-kept) (slight-refused number place room (omega (arith, row .most)) place-few long (rw is-room (small-zeros lentRoom)))
 
-  pub answer-fits : (v : Verdict) → ByCause (refusal (jobTable j) (j .condition) (j .needs)) (jobTable j) (j .condition) (j .needs) room room' scratch scratch' v
-      → length (answerText v (j .condition) room') ≤ mostPrinted
-  answer-fits v B = slight-short v (j .condition) room' (cause-slight (refusal (jobTable j) (j .condition) (j .needs)) v refl B)
+  pub answer-fits : (v : Verdict) → ByCause (refusal (lent n start from to marks) c needs) (lent n start from to marks) c needs room room' scratch scratch' v
+      → length (answerText v c room') ≤ mostPrinted
+  answer-fits v B = slight-short v c room' (cause-slight (refusal (lent n start from to marks) c needs) v refl B)

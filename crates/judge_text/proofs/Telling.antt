@@ -1,37 +1,40 @@
 -- From what the reader, the judge and the printer give to the whole promise. A text is read as its outcome says; so each lemma goes by the outcome,
 -- and the reading names the case. Assumes nothing.
-use mathlib.Core.Path.{_≡_, refl, sym, ap, _∙_}
+use mathlib.Core.Path.{_≡_, refl, sym, ap, _∙_, subst}
 use mathlib.Core.Bool.{true}
-use mathlib.Core.List.{List, map}
+use mathlib.Core.List.{List, _++_, map}
 use Prim.Native.Nat.{ℕ, _-_, _≤_}
 use native.Mathlib.Omega.{arith}
 use lib.Dec.{leb}
-use lib.ListN.{length, take, drop, replicate, length-append, length-map}
+use lib.ListN.{length, take, drop, replicate, length-append, length-map, length-take}
 use lib.Seq.{take-append-seam}
 use borrow.Author.Tests.{le-leb}
+use Rattle.table.specs.declared.Acceptance.{Acceptance}
 use Rattle.table.specs.declared.Answer.{Answer}
+use Rattle.table.specs.declared.Finding.{Finding}
 use Rattle.table.specs.declared.Finding.the-variants.{Sound, Refused}
 use Rattle.table.specs.Table.{lent}
 use Rattle.job_text.specs.declared.printer.Printed.{Printed}
 use Rattle.job_text.specs.declared.printer.Printed.the-variants as printed
 use Rattle.job_text.specs.declared.reader.Reading.{Reading}
 use Rattle.job_text.specs.Value.{Edge, padTo}
-use Rattle.job_text.specs.Job.{mostJobEdges, Job, Outcome, job, fault, readJob}
+use Rattle.job_text.specs.Job.{mostJobStates, mostJobEdges, Job, Outcome, job, fault, readJob}
 use Rattle.job_text.specs.Reading.{readingOf, cellsOf, Read}
 use Rattle.job_text.specs.Printed.{answerText, mostPrinted, Prints}
-use Rattle.judging.specs.Answer.{Answers}
-use Rattle.judge_text.specs.Replied.{jobTable, lentRoom, lentScratch, refusedText, ReplyTo, Holds}
-use Rattle.judge_text.proofs.Limits.{Bounded, read-bounded}
-use Rattle.judge_text.proofs.Lent.{enough, by-rows}
+use Rattle.judging.specs.Answer.{ByCause, Answers}
+use Rattle.judge_text.specs.Replied.{edgeCells, jobTable, lentRoom, lentScratch, refusedText, JobReply, ReplyTo, Holds, Replied}
+use Rattle.judge_text.specs.inner.{Judged}
+use Rattle.judge_text.proofs.Limits.{Limited, Bounded, read-bounded}
+use Rattle.judge_text.proofs.Lent.{enough}
 use Rattle.judge_text.proofs.Fits.{answer-fits}
 
 -- ---- what was read
 
-unlike : {number place : ℕ} → Refused number place ≡ Sound → ⊥
+pub unlike : {number place : ℕ} → Refused number place ≡ Sound → ⊥
 unlike e = let z : _≡_ {A = ℕ} 0 1 = cc in omega arith
 
 -- the part of a table that the judge is lent is the edges' numbers
-part-is : (f : Edge → ℕ) (es : List Edge) → take (length es - 0) (drop 0 (padTo mostJobEdges (map f es))) ≡ map f es
+pub part-is : (f : Edge → ℕ) (es : List Edge) → take (length es - 0) (drop 0 (padTo mostJobEdges (map f es))) ≡ map f es
 part-is f es =
     let n : length es - 0 ≡ length (map f es) = omega (arith, length-map es f) in
     ap (λ (k : ℕ). take k (padTo mostJobEdges (map f es))) n ∙ take-append-seam (map f es) _
@@ -44,12 +47,13 @@ edges-within f (fault number place) before e g = omega (arith, ap (λ (x : Readi
 
 -- ---- what the reader refuses
 
+-- one refusal, one text
+pub same-text : {number place x p : ℕ} → Refused number place ≡ Refused x p → refusedText number place ≡ refusedText x p
+same-text {number} {place} {x} {p} q = let a : number ≡ x = cc in let b : place ≡ p = cc in rw (a, b)
+
 refused-by : (o : Outcome) (r : Reading) (number place : ℕ) → r ≡ readingOf o → r .finding ≡ Refused number place → ReplyTo o (refusedText number place)
 refused-by (job j) r number place e f = absurd (unlike (sym f ∙ ap (λ (x : Reading). x .finding) e))
-refused-by (fault x p) r number place e f = let q : Refused number place ≡ Refused x p = sym f ∙ ap (λ (x : Reading). x .finding) e in same-text q
-  where
-    same-text : Refused number place ≡ Refused x p → refusedText number place ≡ refusedText x p
-    same-text q = let a : number ≡ x = cc in let b : place ≡ p = cc in rw (a, b)
+refused-by (fault x p) r number place e f = same-text (sym f ∙ ap (λ (x : Reading). x .finding) e)
 
 -- ---- for any text that is read
 
@@ -68,55 +72,107 @@ module _ {text b b' b'' from to marks : List ℕ} {r : Reading} (R : Read text b
 
 -- ---- what the judge answers
 
-module _ (r : Reading) (from to marks room scratch : List ℕ) (a : Answer) where
-  -- the judge's contract at what was lent to it: the parts of the tables that hold edges
+-- a table within a job's limits: what the judge answers fits
+pub judged-fits : (n start : ℕ) (from to marks : List ℕ) (c : Acceptance) (needs room scratch : List ℕ) (a : Answer) → n ≤ mostJobStates → length from ≤ mostJobEdges
+    → Answers (lent n start from to marks) c needs (replicate lentRoom 0) room (replicate lentScratch 0) scratch a → length (answerText (a .verdict) c room) ≤ mostPrinted
+judged-fits n start from to marks c needs room scratch a few-states few-edges A =
+    answer-fits n start from to marks c needs few-edges (replicate lentRoom 0) room (replicate lentScratch 0) scratch refl (a .verdict)
+    (subst (λ (f : Finding). ByCause f (lent n start from to marks) c needs (replicate lentRoom 0) room (replicate lentScratch 0) scratch (a .verdict))
+    (enough n start from to marks c needs few-states few-edges) A)
+
+-- a job that was judged has its reply
+pub job-reply : (j : Job) → Limited j → {out : List ℕ} {size : ℕ} (G : Judged (jobTable j) (j .condition) (j .needs) out size)
+    → JobReply j (answerText (G .answer .verdict) (j .condition) (G .room))
+job-reply j L G =
+    record {
+      answer = G .answer;
+      room = G .room;
+      scratch = G .scratch;
+      allowed = G .allowed;
+      enough = enough (j .states) (j .start) (edgeCells (λ e. e .from) j) (edgeCells (λ e. e .to) j) (edgeCells (λ e. e .marks) j) (j .condition) (j .needs) (L .states)
+          (omega (arith, L .edges, length-map (j .edges) (λ (e : Edge). e .from)));
+      is = refl;
+    }
+
+-- what a reply is, and where it stands
+pub record Reply (o : Outcome) (out : List ℕ) (size : ℕ) : Type 0 where
+  pub printed : List ℕ
+  pub says : ReplyTo o printed
+  pub held : Holds printed out size
+
+module _ (r : Reading) (from to marks out : List ℕ) (size : ℕ) where
+  -- what was judged and printed: the parts of the tables that hold edges
   abbrev pub Lent : Type 0
   Lent =
-      Answers (lent (r .states) (r .start) (take (r .edges - 0) (drop 0 from)) (take (r .edges - 0) (drop 0 to)) (take (r .edges - 0) (drop 0 marks)))
-      (r .condition) (r .needs) (replicate lentRoom 0) room (replicate lentScratch 0) scratch a
+      Judged (lent (r .states) (r .start) (take (r .edges - 0) (drop 0 from)) (take (r .edges - 0) (drop 0 to)) (take (r .edges - 0) (drop 0 marks)))
+      (r .condition) (r .needs) out size
 
   module _ (j : Job) (e : r ≡ readingOf (job j)) (f : from ≡ padTo mostJobEdges (map (λ (e : Edge). e .from) (j .edges)))
       (g : to ≡ padTo mostJobEdges (map (λ (e : Edge). e .to) (j .edges))) (h : marks ≡ padTo mostJobEdges (map (λ (e : Edge). e .marks) (j .edges))) where
-    -- .. is its contract at the job's table
-    on-job : Lent → Answers (jobTable j) (j .condition) (j .needs) (replicate lentRoom 0) room (replicate lentScratch 0) scratch a
-    on-job A =
+    -- .. is the job's table
+    on-job : Lent → Judged (jobTable j) (j .condition) (j .needs) out size
+    on-job G =
         rw (part-is (λ (e : Edge). e .from) (j .edges), part-is (λ (e : Edge). e .to) (j .edges), part-is (λ (e : Edge). e .marks) (j .edges)) at
-        (rw (e, f, g, h) at A)
+        (rw (e, f, g, h) at G)
 
   judged-by : (o : Outcome) (b b' b'' : List ℕ) → Bounded o → r ≡ readingOf o → r .finding ≡ Sound → from ≡ cellsOf (λ e. e .from) o b
-      → to ≡ cellsOf (λ e. e .to) o b' → marks ≡ cellsOf (λ e. e .marks) o b'' → Lent
-      → ReplyTo o (answerText (a .verdict) (r .condition) room) × (length (answerText (a .verdict) (r .condition) room) ≤ mostPrinted)
-  judged-by (fault number place) b b' b'' B e s f g h A = absurd (unlike (sym (ap (λ (x : Reading). x .finding) e) ∙ s))
-  judged-by (job j) b b' b'' B e s f g h A =
-      let allowed = on-job j e f g h A in
-      let c : r .condition ≡ j .condition = ap (λ (x : Reading). x .condition) e in
-      rw c (
-        record { answer = a; room = room; scratch = scratch; allowed = allowed; enough = enough j B; is = refl },
-        answer-fits j B (replicate lentRoom 0) room (replicate lentScratch 0) scratch refl (a .verdict) (by-rows j room scratch a allowed (enough j B)),
-      )
+      → to ≡ cellsOf (λ e. e .to) o b' → marks ≡ cellsOf (λ e. e .marks) o b'' → Lent → Reply o out size
+  judged-by (fault number place) b b' b'' B e s f g h G = absurd (unlike (sym (ap (λ (x : Reading). x .finding) e) ∙ s))
+  judged-by (job j) b b' b'' B e s f g h G =
+      let judged = on-job j e f g h G in
+      record { printed = _; says = job-reply j B judged; held = judged .held }
 
-  -- for any text that is read
-  pub judged-so : {text b b' b'' : List ℕ} → Read text b b' b'' from to marks r → r .finding ≡ Sound → Lent
-      → ReplyTo (readJob text) (answerText (a .verdict) (r .condition) room) × (length (answerText (a .verdict) (r .condition) room) ≤ mostPrinted)
-  judged-so {text} {b} {b'} {b''} R s A = judged-by (readJob text) b b' b'' (read-bounded text) (R .reading) s (R .froms) (R .tos) (R .sets) A
+-- for any text that is read
+module _ {text b b' b'' from to marks : List ℕ} {r : Reading} (R : Read text b b' b'' from to marks r) where
+  pub states-few : r .states ≤ mostJobStates
+  states-few = by (readJob text) (read-bounded text) (R .reading)
+    where
+      by : (o : Outcome) → Bounded o → r ≡ readingOf o → r .states ≤ mostJobStates
+      by (job j) B e = omega (arith, B .states, ap (λ (x : Reading). x .states) e)
+      by (fault number place) B e = omega (arith, ap (λ (x : Reading). x .states) e)
+
+  pub edges-few : length (take (r .edges - 0) (drop 0 from)) ≤ mostJobEdges
+  edges-few = omega (arith, length-take (r .edges - 0) from, by (readJob text) (read-bounded text) (R .reading))
+    where
+      by : (o : Outcome) → Bounded o → r ≡ readingOf o → r .edges ≤ mostJobEdges
+      by (job j) B e = omega (arith, B .edges, ap (λ (x : Reading). x .edges) e)
+      by (fault number place) B e = omega (arith, ap (λ (x : Reading). x .edges) e)
+
+  pub judged-so : {out : List ℕ} {size : ℕ} → r .finding ≡ Sound → Lent r from to marks out size → Replied text out size
+  judged-so {out} {size} s G =
+      let reply = judged-by r from to marks out size (readJob text) b b' b'' (read-bounded text) (R .reading) s (R .froms) (R .tos) (R .sets) G in
+      record { printed = reply .printed; says = reply .says; held = reply .held }
 
 -- ---- what is printed
 
-module _ {text out out' : List ℕ} {r : Printed} (wide : length out ≡ mostPrinted) (fits : length text ≤ mostPrinted) (P : Prints text out out' r) where
+module _ {text out out' : List ℕ} {r : Printed} (fits : length text ≤ length out) (P : Prints text out out' r) where
   there : leb (length text) (length out) ≡ true
-  there = le-leb (length text) (length out) (omega arith)
+  there = le-leb (length text) (length out) fits
 
   whole : r ≡ printed.Text (length text)
   whole = P .answer ∙ rw there
 
-  pub shown-whole : {size : ℕ} → r ≡ printed.Text size → Holds text out' size
-  shown-whole {size} e =
+  -- a text that fits stands in the buffer, with zeros after it
+  pub printed-all : {size : ℕ} → r ≡ printed.Text size → (size ≡ length text) × (out' ≡ text ++ replicate (length out - size) 0)
+  printed-all {size} e =
       let q : printed.Text size ≡ printed.Text (length text) = sym e ∙ whole in
       let n : size ≡ length text = cc in
-      record { all = n; cells = P .buffer ∙ rw (there, wide, n) }
+      (n, P .buffer ∙ rw (there, n))
 
-  pub never-short : {C : Type 0} {number place : ℕ} → r ≡ printed.Refused number place → C
-  never-short {C} {number} {place} e =
+  -- .. and is not refused
+  pub never-refused : {C : Type 0} {number place : ℕ} → r ≡ printed.Refused number place → C
+  never-refused {C} {number} {place} e =
       let q : printed.Refused number place ≡ printed.Text (length text) = sym e ∙ whole in
       let z : _≡_ {A = ℕ} 0 1 = cc in
       absurd (omega arith)
+
+-- in a buffer that is as long as every answer needs
+module _ {text out out' : List ℕ} {r : Printed} (wide : length out ≡ mostPrinted) (fits : length text ≤ mostPrinted) (P : Prints text out out' r) where
+  within : length text ≤ length out
+  within = omega arith
+
+  pub shown-whole : {size : ℕ} → r ≡ printed.Text size → Holds text out' size
+  shown-whole e = let all = printed-all within P e in record { all = all .0; cells = all .1 ∙ rw wide }
+
+  pub never-short : {C : Type 0} {number place : ℕ} → r ≡ printed.Refused number place → C
+  never-short e = never-refused within P e

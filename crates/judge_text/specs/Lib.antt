@@ -2,3 +2,5 @@
 pub mod Replied
 -- Reply: what that comes to: an answer or one numbered refusal, and what two results share
 pub mod Reply
+-- inner: what private contracts go by
+pub mod inner

@@ -10,7 +10,10 @@ use table::Verdict;
 ghost use Prim.Native.Nat.{_≤_};
 ghost use lib.ListN.{length};
 ghost use Rattle.job_text.specs.Printed.{answerText, mostPrinted};
+ghost use Rattle.table.specs.Table.{lent};
+ghost use Rattle.job_text.specs.Job.{mostJobStates, mostJobEdges};
 ghost use Rattle.judge_text.specs.Replied.{refusedText, Holds, Replied};
+ghost use Rattle.judge_text.specs.inner.{Judged};
 
 // No printed answer is longer: at most 8,703 edge numbers of three digits with their commas, and what stands around them.
 pub const MOST_PRINTED: usize = 34932;
@@ -46,6 +49,37 @@ fn show_refused(number: u32, place: u32, out: &mut [u8; MOST_PRINTED]) -> usize
     show(refused, Acceptance::Buchi(0), &room, out)
 }
 
+// Judges a table within a job's limits and prints the answer.
+fn answer_job(
+    states: u32,
+    start: u32,
+    from: &[u32],
+    to: &[u32],
+    marks: &[u32],
+    condition: Acceptance,
+    needs: [u32; 8],
+    out: &mut [u8; MOST_PRINTED],
+) -> usize
+    requires { ⌜ states ≤ mostJobStates ⌝ }
+    requires { ⌜ length (now from) ≤ mostJobEdges ⌝ }
+    ensures { λ r. ⌜ Judged (lent states start (now (from .entry)) (now (to .entry)) (now (marks .entry))) condition needs (now (out .exit)) r ⌝ }
+{
+    let mut room = [0u32; LENT_ROOM];
+    let mut scratch = [0u32; LENT_SCRATCH];
+    let answer = judging::judge(
+        states,
+        start,
+        from,
+        to,
+        marks,
+        condition,
+        needs,
+        &mut room,
+        &mut scratch,
+    );
+    show(answer, condition, &room, out)
+}
+
 // The printed answer to a text and zeros after it, in `out`; gives its length. For every text: what the reader refuses is told, what it reads is judged.
 pub fn judge_text(text: &[u8], out: &mut [u8; MOST_PRINTED]) -> usize
     ensures { λ r. ⌜ Replied (now (text .entry)) (now (out .exit)) r ⌝ }
@@ -61,9 +95,7 @@ pub fn judge_text(text: &[u8], out: &mut [u8; MOST_PRINTED]) -> usize
     let m = job.edges as usize;
     let condition = job.condition;
     let needs = job.needs;
-    let mut room = [0u32; LENT_ROOM];
-    let mut scratch = [0u32; LENT_SCRATCH];
-    let answer = judging::judge(
+    answer_job(
         job.states,
         job.start,
         &from[0..m],
@@ -71,8 +103,6 @@ pub fn judge_text(text: &[u8], out: &mut [u8; MOST_PRINTED]) -> usize
         &marks[0..m],
         condition,
         needs,
-        &mut room,
-        &mut scratch,
-    );
-    show(answer, condition, &room, out)
+        out,
+    )
 }

@@ -14,6 +14,8 @@ use Rattle.judging.proofs.Unique.{Alike, answers-alike}
 use Rattle.one_mark.proofs.Faithful.{one-result}
 use Rattle.mukhadero.specs.declared.AnswerNumbers.{AnswerNumbers}
 use Rattle.mukhadero.specs.declared.TableNumbers.{TableNumbers}
+use Rattle.mukhadero.specs.declared.hoa.TextNumbers.{TextNumbers}
+use Rattle.mukhadero.specs.Hoa.{WriteTells, textNumbers}
 use Rattle.mukhadero.specs.Numbers.{JudgeTells, TranslationTells, answerNumbers, tableNumbers}
 
 -- ---- the judge
@@ -77,3 +79,10 @@ translation-once t k from to marks r s {from₁} {to₁} {marks₁} {from₂} {t
       to-lists = one .to-lists;
       marks-lists = one .marks-lists;
     }
+
+-- ---- the writer of the Hanoi format
+
+pub written-once : (t : Table) (c : Acceptance) (needs out : List ℕ) (r s : TextNumbers) {out₁ out₂ : List ℕ}
+    → WriteTells t c needs out out₁ r → WriteTells t c needs out out₂ s → (r ≡ s) × (out₁ ≡ out₂)
+written-once t c needs out r s R S =
+    (R .told ∙ ap textNumbers (R .promised .answer ∙ sym (S .promised .answer)) ∙ sym (S .told), R .promised .output ∙ sym (S .promised .output))

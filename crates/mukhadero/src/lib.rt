@@ -1,5 +1,7 @@
 // The C face, as include/mukhadero.h declares it: the proved judge and the proved translation under C names, with their answers in plain numbers.
-// Each function takes any input; relies on `judging` and `one_mark` for all that it says.
+// Each function takes any input; relies on `judging` and `one_mark` for all that it says. The Hanoi format is in `hoa`.
+mod hoa;
+
 ghost use mathlib.Core.Path.{_≡_};
 ghost use Rattle.table.specs.Table.{lent};
 ghost use Rattle.mukhadero.specs.Numbers.{JudgeTells, noNeeds, TranslationTells, answerNumbers, tableNumbers};
@@ -17,10 +19,10 @@ const EMPTY: u32 = 1;
 
 const RUN: u32 = 2;
 
-const ANSWERED: u32 = 0;
+pub(crate) const ANSWERED: u32 = 0;
 
-// 1.0.0: 10,000 for the major number, 100 for the minor, 1 for the patch; as MUKHADERO_VERSION of the header
-const VERSION: u32 = 10000;
+// 1.1.0: 10,000 for the major number, 100 for the minor, 1 for the patch; as MUKHADERO_VERSION of the header
+const VERSION: u32 = 10100;
 
 // `mukhadero_answer`: a field that has no meaning for the verdict is 0.
 #[repr(C)]
@@ -111,7 +113,7 @@ fn table_numbers(answer: Translation) -> TableNumbers
 // The version of this archive.
 #[no_mangle]
 pub extern "C" fn mukhadero_version() -> u32
-    ensures { λ r. ⌜ r ≡ 10000 ⌝ }
+    ensures { λ r. ⌜ r ≡ 10100 ⌝ }
 {
     VERSION
 }

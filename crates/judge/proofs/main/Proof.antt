@@ -1,5 +1,5 @@
 -- `main` is safe: what was read ends within the text (`few`), which keeps its length. Assumes nothing.
-use Rattle.judge.proofs.Counts.{few}
+use Rattle.text_input.proofs.Counts.{few}
 use native.Mathlib.Omega.{arith}
 use borrow.Author.Needs.{needs}
 use Rattle.judge.proofs.main.Statement.{statement}

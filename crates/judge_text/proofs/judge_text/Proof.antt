@@ -1,8 +1,7 @@
 -- `judge_text` meets its contract: what the reader refuses is printed (`refused-so`); what it reads is judged, in parts of the tables that are as long as
--- the edges are many (`froms-reach`, ..), and the answer is one that the judge's contract allows and fits (`judged-so`). Assumes nothing.
-use native.Mathlib.Omega.{arith}
+-- the edges are many (`froms-reach`, ..), and the answer that is printed is the text's reply (`judged-so`). Assumes nothing.
 use borrow.Author.Needs.{needs}
-use Rattle.judge_text.proofs.Telling.{froms-reach, tos-reach, sets-reach, refused-so, judged-so}
+use Rattle.judge_text.proofs.Telling.{froms-reach, tos-reach, sets-reach, refused-so, states-few, edges-few, judged-so}
 use Rattle.judge_text.proofs.judge_text.Statement.{statement}
 use Rattle.judge_text.proofs.judge_text.Tie as tie
 
@@ -26,64 +25,42 @@ enum-told c = search needs
 cast-m : tie.Need-cast-m
 cast-m c = search needs
 
-sub-judge : tie.Need-sub-judge
-sub-judge c = search needs
+sub-answer-job : tie.Need-sub-answer-job
+sub-answer-job c = search needs
 
-part-judge-start : tie.Need-part-judge-start
-part-judge-start c = search needs
+part-answer-job-start : tie.Need-part-answer-job-start
+part-answer-job-start c = search needs
 
-part-judge-end : tie.Need-part-judge-end
-part-judge-end c = let read = c .before .before .before .before .before .read .ensures in omega (arith, froms-reach read, tos-reach read)
+part-answer-job-end : tie.Need-part-answer-job-end
+part-answer-job-end c = froms-reach (c .before .before .before .before .before .read .ensures)
 
-sub-judge-2 : tie.Need-sub-judge-2
-sub-judge-2 c = search needs
+sub-answer-job-2 : tie.Need-sub-answer-job-2
+sub-answer-job-2 c = search needs
 
-part-judge-start-2 : tie.Need-part-judge-start-2
-part-judge-start-2 c = search needs
+part-answer-job-start-2 : tie.Need-part-answer-job-start-2
+part-answer-job-start-2 c = search needs
 
-part-judge-end-2 : tie.Need-part-judge-end-2
-part-judge-end-2 c = let read = c .before .before .before .before .before .before .before .read .ensures in omega (arith, froms-reach read, tos-reach read)
+part-answer-job-end-2 : tie.Need-part-answer-job-end-2
+part-answer-job-end-2 c = tos-reach (c .before .before .before .before .before .before .before .read .ensures)
 
-sub-judge-3 : tie.Need-sub-judge-3
-sub-judge-3 c = search needs
+sub-answer-job-3 : tie.Need-sub-answer-job-3
+sub-answer-job-3 c = search needs
 
-part-judge-start-3 : tie.Need-part-judge-start-3
-part-judge-start-3 c = search needs
+part-answer-job-start-3 : tie.Need-part-answer-job-start-3
+part-answer-job-start-3 c = search needs
 
-part-judge-end-3 : tie.Need-part-judge-end-3
-part-judge-end-3 c = sets-reach (c .before .before .before .before .before .before .before .before .before .read .ensures)
+part-answer-job-end-3 : tie.Need-part-answer-job-end-3
+part-answer-job-end-3 c = sets-reach (c .before .before .before .before .before .before .before .before .before .read .ensures)
 
-slice-aggregate-judge : tie.Need-slice-aggregate-judge
-slice-aggregate-judge c = search needs
-
-slice-aggregate-judge-2 : tie.Need-slice-aggregate-judge-2
-slice-aggregate-judge-2 c = search needs
-
-judge-requires : tie.Need-judge-requires
-judge-requires c κs = search needs
-
-slice-aggregate-show : tie.Need-slice-aggregate-show
-slice-aggregate-show c = search needs
-
-show-requires : tie.Need-show-requires
-show-requires c κs =
-    let at-judge = c .before .before .before .before in
-    let at-told = at-judge .before .before .before .before .before .before .before .before .before .before .before in
-    let at-read = at-told .before .before in
-    let lent = at-judge .judge .last .1 .1 .1 .1 .1 .1 .1 in
-    let judged = judged-so (at-read .read .result) (at-read .read .last .1 .0) (at-read .read .last .1 .1 .0) (at-read .read .last .1 .1 .1 .0) (lent .0) (lent .1 .0)
-    (at-judge .judge .result) (at-read .read .ensures) (at-told .enum-told .given .1) (at-judge .judge .ensures) in
-    judged .1
+answer-job-requires : tie.Need-answer-job-requires
+answer-job-requires c κs =
+    let read = c .before .before .before .before .before .before .before .before .before .before .before .read .ensures in
+    (states-few read, edges-few read)
 
 returns-2 : tie.Need-returns-2
 returns-2 c =
-    let at-judge = c .before .before .before .before .before in
-    let at-told = at-judge .before .before .before .before .before .before .before .before .before .before .before in
-    let at-read = at-told .before .before in
-    let lent = at-judge .judge .last .1 .1 .1 .1 .1 .1 .1 in
-    let judged = judged-so (at-read .read .result) (at-read .read .last .1 .0) (at-read .read .last .1 .1 .0) (at-read .read .last .1 .1 .1 .0) (lent .0) (lent .1 .0)
-    (at-judge .judge .result) (at-read .read .ensures) (at-told .enum-told .given .1) (at-judge .judge .ensures) in
-    record { printed = _; says = judged .0; held = c .show .ensures }
+    let at-told = c .before .before .before .before .before .before .before .before .before .before in
+    judged-so (at-told .before .before .read .ensures) (at-told .enum-told .given .1) (c .answer-job .ensures)
 
 pub judge-text-spec : {M : Type 1} → statement M
 judge-text-spec =
@@ -95,18 +72,14 @@ judge-text-spec =
     returns
     enum-told
     cast-m
-    sub-judge
-    part-judge-start
-    part-judge-end
-    sub-judge-2
-    part-judge-start-2
-    part-judge-end-2
-    sub-judge-3
-    part-judge-start-3
-    part-judge-end-3
-    slice-aggregate-judge
-    slice-aggregate-judge-2
-    judge-requires
-    slice-aggregate-show
-    show-requires
+    sub-answer-job
+    part-answer-job-start
+    part-answer-job-end
+    sub-answer-job-2
+    part-answer-job-start-2
+    part-answer-job-end-2
+    sub-answer-job-3
+    part-answer-job-start-3
+    part-answer-job-end-3
+    answer-job-requires
     returns-2)

@@ -1,7 +1,7 @@
 -- What reading comes to: so many bytes, or that a read failed. Assumes nothing.
 use Prim.Native.Nat.{ℕ, _≤_}
-use Rattle.judge.specs.declared.Input.{Input}
-use Rattle.judge.specs.declared.Input.the-variants.{Bytes, Failed}
+use Rattle.text_input.specs.declared.Input.{Input}
+use Rattle.text_input.specs.declared.Input.the-variants.{Bytes, Failed}
 
 -- no more bytes than were asked for
 abbrev pub Within : ℕ → Input → Type 0

@@ -3,10 +3,10 @@
 use mathlib.Core.Path.{_≡_}
 use Prim.Native.Nat.{_-_, _≤_}
 use lib.ListN.{length}
-use Rattle.judge.proofs.Counts.{few}
+use Rattle.text_input.proofs.Counts.{few}
 use borrow.Author.Needs.{needs}
-use Rattle.judge.proofs.read_input.Statement.{statement}
-use Rattle.judge.proofs.read_input.Tie as tie
+use Rattle.text_input.proofs.read_input.Statement.{statement}
+use Rattle.text_input.proofs.read_input.Tie as tie
 
 abbrev Inv-loop : tie.InvT-loop
 Inv-loop text₀ at₀ text at = (length text ≡ length text₀) × (at ≤ length text)

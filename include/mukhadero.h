@@ -6,9 +6,9 @@
  * prefix back to it). The judge answers "run" with an accepted lasso, "empty" if there is none, or refuses with a number and a place.
  *
  * What a caller must see to; no other input is undefined:
- * - Each pointer is good for its count of cells of 32 bits and aligned as uint32_t is. A count may be 0; its pointer is then not
- *   followed and may be NULL. `needs` has no count: it always points to eight cells and is never NULL.
- * - A buffer that is written (room, scratch, the translation's outputs) overlaps no other buffer of the same call.
+ * - Each pointer is good for its count of cells, of 32 bits and aligned as uint32_t is, or of bytes for a text. A count may be 0; its
+ *   pointer is then not followed and may be NULL. `needs` has no count: it always points to eight cells and is never NULL.
+ * - A buffer that is written (room, scratch, outputs, the tables that a text is read into) overlaps no other buffer of the same call.
  *
  * Memory: nothing is allocated and nothing is kept between calls. A call takes less than 64 KB of stack, whatever the table.
  * Threads: calls may run at the same time. Tables and needs are only read and may be shared; room, scratch and outputs may not.
@@ -24,9 +24,9 @@
 #include <stdint.h>
 
 /* The version of this header; mukhadero_version() gives that of the archive. They must be equal. */
-#define MUKHADERO_VERSION_STRING "1.0.0"
+#define MUKHADERO_VERSION_STRING "1.1.0"
 #define MUKHADERO_VERSION_MAJOR  1
-#define MUKHADERO_VERSION_MINOR  0
+#define MUKHADERO_VERSION_MINOR  1
 #define MUKHADERO_VERSION_PATCH  0
 #define MUKHADERO_VERSION (10000 * MUKHADERO_VERSION_MAJOR + 100 * MUKHADERO_VERSION_MINOR + MUKHADERO_VERSION_PATCH)
 
@@ -44,7 +44,10 @@ enum {
     MUKHADERO_MOST_BUCHI_MARKS   = 32,
     MUKHADERO_MOST_STREETT_PAIRS = 16,
     MUKHADERO_MOST_RABIN_PAIRS   = 8,
-    MUKHADERO_MOST_RABIN_MARKS   = 32 /* forbidden and needed marks of all pairs together */
+    MUKHADERO_MOST_RABIN_MARKS   = 32, /* forbidden and needed marks of all pairs together */
+    MUKHADERO_MOST_HOA_STATES    = 256,
+    MUKHADERO_MOST_HOA_EDGES     = 512, /* tables of so many cells are never too short to be read into */
+    MUKHADERO_MOST_HOA_BYTES     = 52205 /* an output of so many bytes is never too short to be written to */
 };
 
 /* The field `verdict` of an answer. */
@@ -68,11 +71,22 @@ enum {
     MUKHADERO_REFUSED_ROOM          = 8,  /* the lasso room is too short */
     MUKHADERO_REFUSED_SCRATCH       = 9,  /* the scratch is too short */
     MUKHADERO_REFUSED_TABLE_SIZE    = 10, /* the translated table would be above 4,096 states or 32,768 edges */
-    MUKHADERO_REFUSED_OUTPUT        = 11, /* a lent output is shorter than the translated edge count */
+    MUKHADERO_REFUSED_OUTPUT        = 11, /* a lent output is shorter than the translated edge count, the edges that were read, or the
+                                             text that was to be written */
     MUKHADERO_REFUSED_TEXT_LENGTH   = 20, /* job text above 12,288 bytes (20 to 23: only the judge program) */
     MUKHADERO_REFUSED_LINE_KEY      = 21, /* a line has the wrong key, is missing, or follows the end; place: the line */
     MUKHADERO_REFUSED_LINE_VALUE    = 22, /* a value is not of its form; place: the line */
-    MUKHADERO_REFUSED_PROGRAM_LIMIT = 23  /* above the program's limits; place: the line */
+    MUKHADERO_REFUSED_PROGRAM_LIMIT = 23, /* above the program's limits; place: the line */
+    MUKHADERO_REFUSED_HOA_SYNTAX    = 40, /* not the Hanoi format, version 1; place: the byte where the faulty token begins */
+    MUKHADERO_REFUSED_HOA_SUBSET    = 41, /* outside of what is read of it; place: the byte */
+    MUKHADERO_REFUSED_HOA_LIMIT     = 42  /* above its limits; place: the byte, and 0 where a text was to be written */
+};
+
+/* The field `kind` of what was read. */
+enum {
+    MUKHADERO_KIND_BUCHI   = 0,
+    MUKHADERO_KIND_STREETT = 1,
+    MUKHADERO_KIND_RABIN   = 2
 };
 
 /*
@@ -101,6 +115,25 @@ typedef struct mukhadero_table {
     uint32_t edges;  /* edges of the translated table: m*K */
     uint32_t start;  /* start of the translated table: start*K */
 } mukhadero_table;
+
+/* What a text in the Hanoi format says. All but number and place are 0 if it was refused. */
+typedef struct mukhadero_hoa {
+    uint32_t number;   /* MUKHADERO_ANSWERED, or the cause of the refusal */
+    uint32_t kind;     /* MUKHADERO_KIND_.. */
+    uint64_t place;    /* refused: the byte where the faulty token begins */
+    uint32_t states;   /* number of states */
+    uint32_t start;    /* the start state */
+    uint32_t edges;    /* number of edges: from, to and marks hold so many cells, then zeros */
+    uint32_t count;    /* number of marks (Buchi) or pairs (Streett, Rabin) */
+    uint32_t needs[8]; /* Rabin: needed marks of each pair */
+} mukhadero_hoa;
+
+/* What writing a text gives. */
+typedef struct mukhadero_text {
+    uint32_t number; /* MUKHADERO_ANSWERED, or the cause of the refusal */
+    uint32_t place;  /* refused: the place that belongs to the number */
+    uint64_t length; /* bytes of the text; 0 if it was refused */
+} mukhadero_text;
 
 /* The version of the archive, numbered as MUKHADERO_VERSION. */
 uint32_t mukhadero_version(void);
@@ -185,6 +218,71 @@ mukhadero_table mukhadero_one_mark(
     size_t out_to_len,       /* cells in out_to; at least m*K */
     uint32_t *out_marks,     /* receives the marks of each translated edge: 1 if it bears mark 0, else 0 */
     size_t out_marks_len     /* cells in out_marks; at least m*K */
+);
+
+/*
+ * Reads a text in the Hanoi format (HOA version 1): at most 256 states, 512 edges with a satisfiable label, 6 propositions and 32 marks;
+ * docs/RULES.md, "The Hanoi format", says which texts are read. The tables hold the edges, sorted by the states that they leave, then
+ * zeros to their own ends. What is read is never refused by causes 1 to 7. A refusal changes no lent cell.
+ */
+mukhadero_hoa mukhadero_read_hoa(
+    const uint8_t *text,     /* the text's bytes; only read */
+    size_t text_len,         /* how many there are */
+    uint32_t *from,          /* receives the state each edge leaves */
+    size_t from_len,         /* cells in from; MUKHADERO_MOST_HOA_EDGES are always enough, here and below */
+    uint32_t *to,            /* receives the state each edge arrives at */
+    size_t to_len,           /* cells in to */
+    uint32_t *marks,         /* receives the marks on each edge */
+    size_t marks_len         /* cells in marks */
+);
+
+/*
+ * Writes a table under Buchi k as a text in the Hanoi format. Refused are tables that the judge refuses by causes 1 to 7, those above
+ * 256 states or 512 edges (42), and an output that is too short (11). A refusal changes no lent cell. (The same holds for the other two.)
+ */
+mukhadero_text mukhadero_write_hoa_buchi(
+    uint32_t n,              /* number of states */
+    uint32_t start,          /* the start state */
+    const uint32_t *from,    /* the state each edge leaves; never decreasing; only read */
+    size_t from_len,         /* cells in from */
+    const uint32_t *to,      /* the state each edge arrives at; only read */
+    size_t to_len,           /* cells in to; must equal from_len */
+    const uint32_t *marks,   /* the marks on each edge, mark i as bit i; only read */
+    size_t marks_len,        /* cells in marks; must equal from_len */
+    uint32_t k,              /* number of marks */
+    uint8_t *out,            /* receives the text, then zeros to its end */
+    size_t out_len           /* bytes in out; MUKHADERO_MOST_HOA_BYTES are always enough */
+);
+
+/* Writes a table under Streett p. With no pairs it is read back as Buchi with no marks. */
+mukhadero_text mukhadero_write_hoa_streett(
+    uint32_t n,              /* number of states */
+    uint32_t start,          /* the start state */
+    const uint32_t *from,    /* the state each edge leaves; never decreasing; only read */
+    size_t from_len,         /* cells in from */
+    const uint32_t *to,      /* the state each edge arrives at; only read */
+    size_t to_len,           /* cells in to; must equal from_len */
+    const uint32_t *marks,   /* the marks on each edge, mark i as bit i; only read */
+    size_t marks_len,        /* cells in marks; must equal from_len */
+    uint32_t p,              /* number of pairs */
+    uint8_t *out,            /* receives the text, then zeros to its end */
+    size_t out_len           /* bytes in out; MUKHADERO_MOST_HOA_BYTES are always enough */
+);
+
+/* Writes a table under Rabin p. */
+mukhadero_text mukhadero_write_hoa_rabin(
+    uint32_t n,              /* number of states */
+    uint32_t start,          /* the start state */
+    const uint32_t *from,    /* the state each edge leaves; never decreasing; only read */
+    size_t from_len,         /* cells in from */
+    const uint32_t *to,      /* the state each edge arrives at; only read */
+    size_t to_len,           /* cells in to; must equal from_len */
+    const uint32_t *marks,   /* the marks on each edge, mark i as bit i; only read */
+    size_t marks_len,        /* cells in marks; must equal from_len */
+    uint32_t p,              /* number of pairs */
+    const uint32_t needs[8], /* needed marks of each pair; those from p on must be 0; only read; never NULL */
+    uint8_t *out,            /* receives the text, then zeros to its end */
+    size_t out_len           /* bytes in out; MUKHADERO_MOST_HOA_BYTES are always enough */
 );
 
 #ifdef __cplusplus

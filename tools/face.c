@@ -21,6 +21,9 @@ int main(void) {
     uint32_t none = 0, out_from[5], out_to[5], out_marks[5];
     mukhadero_answer a;
     mukhadero_table t;
+    mukhadero_text w;
+    mukhadero_hoa h;
+    static uint8_t text[MUKHADERO_MOST_HOA_BYTES];
 
     expect(mukhadero_version() == MUKHADERO_VERSION, "the archive has the version of the header");
     expect(MUKHADERO_ROOM_CELLS(PAIRS, none) == 0, "no states need no room");
@@ -45,5 +48,24 @@ int main(void) {
     expect(a.verdict == MUKHADERO_VERDICT_REFUSED && a.number == MUKHADERO_REFUSED_STATES, "no states");
     t = mukhadero_one_mark(1, 0, NULL, 0, NULL, 0, NULL, 0, 0, NULL, 0, NULL, 0, NULL, 0);
     expect(t.number == MUKHADERO_ANSWERED && t.states == 1 && t.edges == 0, "no edges to translate");
+
+    /* a text that is written is read back */
+    w = mukhadero_write_hoa_rabin(STATES, 0, from, EDGES, to, EDGES, marks, EDGES, 1, needs, text, sizeof text);
+    expect(w.number == MUKHADERO_ANSWERED && w.length > 8 && w.length < sizeof text && text[w.length] == 0, "a text is written");
+    h = mukhadero_read_hoa(text, MUKHADERO_SIZE(w.length), out_from, 5, out_to, 5, out_marks, 5);
+    expect(h.number == MUKHADERO_ANSWERED && h.kind == MUKHADERO_KIND_RABIN && h.count == 1 && h.needs[0] == 1 && h.needs[1] == 0, "the condition is read back");
+    expect(h.states == STATES && h.start == 0 && h.edges == EDGES && h.place == 0, "the table is read back");
+    expect(out_from[3] == 3 && out_to[3] == 1 && out_marks[2] == 2 && out_from[4] == 0 && out_to[4] == 0 && out_marks[4] == 0, "its edges are read back");
+    h = mukhadero_read_hoa(text, MUKHADERO_SIZE(w.length), out_from, 3, out_to, 5, out_marks, 5);
+    expect(h.number == MUKHADERO_REFUSED_OUTPUT && h.place == 0 && h.states == 0, "a table that is too short to be read into");
+    text[0] = 'h';
+    h = mukhadero_read_hoa(text, MUKHADERO_SIZE(w.length), out_from, 5, out_to, 5, out_marks, 5);
+    expect(h.number == MUKHADERO_REFUSED_HOA_SYNTAX && h.place == 0 && h.edges == 0, "no text in the Hanoi format");
+    h = mukhadero_read_hoa(NULL, 0, NULL, 0, NULL, 0, NULL, 0);
+    expect(h.number == MUKHADERO_REFUSED_HOA_SYNTAX && h.place == 0, "no text at all");
+    w = mukhadero_write_hoa_buchi(STATES, 0, from, EDGES, to, EDGES, marks, EDGES, 2, text, 10);
+    expect(w.number == MUKHADERO_REFUSED_OUTPUT && w.length == 0, "an output that is too short for a text");
+    w = mukhadero_write_hoa_streett(257, 0, NULL, 0, NULL, 0, NULL, 0, 0, text, sizeof text);
+    expect(w.number == MUKHADERO_REFUSED_HOA_LIMIT && w.place == 0, "more states than a text may have");
     return failed;
 }

@@ -32,14 +32,22 @@ pub enum Cause {
     /// Number 10, translation only: the translated table, with max(k, 1) times the states and edges, would have more than 4,096
     /// states or 32,768 edges.
     TableSize,
-    /// Number 11, translation only: an output is shorter than the translated edge count, max(k, 1) times the table's.
+    /// Number 11: an output is shorter than the translated edge count, max(k, 1) times the table's; than the edges that were read; or
+    /// than the text that was to be written.
     Output,
+    /// Number 40: the text is not of the Hanoi format, version 1. The place is the byte where the faulty token begins.
+    HoaSyntax,
+    /// Number 41: the text is outside of what is read of the Hanoi format. The place is the byte.
+    HoaSubset,
+    /// Number 42: the text or, where one was to be written, the table is above the limits of the Hanoi format's reader and writer. The
+    /// place is the byte, or 0.
+    HoaLimits,
     /// A number that this crate does not know: the archive is of another version (see [`version`](crate::version)).
     Unknown(u32),
 }
 
 impl Cause {
-    fn of(number: u32) -> Self {
+    pub(crate) fn of(number: u32) -> Self {
         match number {
             1 => Cause::States,
             2 => Cause::Edges,
@@ -52,6 +60,9 @@ impl Cause {
             9 => Cause::Scratch,
             10 => Cause::TableSize,
             11 => Cause::Output,
+            40 => Cause::HoaSyntax,
+            41 => Cause::HoaSubset,
+            42 => Cause::HoaLimits,
             number => Cause::Unknown(number),
         }
     }
@@ -71,6 +82,9 @@ impl Cause {
             Cause::Scratch => 9,
             Cause::TableSize => 10,
             Cause::Output => 11,
+            Cause::HoaSyntax => 40,
+            Cause::HoaSubset => 41,
+            Cause::HoaLimits => 42,
             Cause::Unknown(number) => number,
         }
     }
@@ -90,6 +104,9 @@ impl fmt::Display for Cause {
             Cause::Scratch => "the scratch is too short",
             Cause::TableSize => "the translated table would be too large",
             Cause::Output => "a lent output is too short",
+            Cause::HoaSyntax => "the text is not of the Hanoi format",
+            Cause::HoaSubset => "the text is outside of what is read of the Hanoi format",
+            Cause::HoaLimits => "above the limits of the Hanoi format's reader and writer",
             Cause::Unknown(_) => "a cause that this crate does not know",
         })
     }

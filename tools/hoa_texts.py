@@ -706,7 +706,7 @@ def padded(text, length):
 
 def large_texts():
     whole = automaton().encode()
-    deep = 150_000
+    deep = 50_000
     names = [b"x" * 160_000 + bytes([65 + i]) for i in range(6)]
     six = b"AP: 6 " + b" ".join(b'"%s"' % name for name in names) + b"\n"
     begin = b"HOA: v1 Start: 0 Acceptance: 0 t --BODY-- State: 0 "
@@ -720,24 +720,24 @@ def large_texts():
         ("1,048,576 bytes, the last one faulty", padded(whole, LONGEST - 1) + b"x", (40, LONGEST - 1)),
         ("a comment of a million bytes", b"/*" + b"*" * 1_000_000 + b"/" + whole, None),
         ("a comment of a million bytes, open", b" /*" + b"/ * " * 250_000, (40, 1)),
-        ("half a million comments in one another", b"/*" * 250_000 + b"*/" * 250_000 + whole, None),
+        ("250,000 comments in one another", b"/*" * 250_000 + b"*/" * 250_000 + whole, None),
         ("half a million comments in one another, open", b"/*" * 500_000, (40, 0)),
         ("a string of a million bytes", automaton(more='name: "' + 500_000 * '\\"' + '"\n').encode(), None),
         ("a string of a million bytes, open", (automaton(more="") .split("--BODY--")[0] + 'name: "').encode() + b"\\\"" * 500_000, (40, len(automaton().split("--BODY--")[0]) + 6)),
         ("a number of a million digits", b"HOA: v1 x: " + b"1" * 1_000_000, (40, 11)),
         ("a word of a million letters", b"HOA: v1 x: " + b"a-" * 500_000 + b" --BODY--", (41, 1_000_012)),
         ("six names that differ in their last of 160,000 bytes", automaton(ap="@@", body="State: 0 [5] 1 State: 1\n").encode().replace(b"@@", six), None),
-        ("a formula in 150,000 brackets", with_formula(1, "(" * deep + "Inf(0)" + ")" * deep).encode(), None),
-        ("a Streett formula in 150,000 brackets", with_formula(2, "(" * deep + "Fin(0)" + ")" * (deep // 2) + "|" + "(" * deep + "Inf(1)" + ")" * (deep + deep // 2)).encode(), None),
-        ("a Rabin formula in 150,000 brackets", with_formula(3, "(" * deep + "Fin(0)&(" + "(" * deep + "Inf(1)" + ")" * (deep + 1) + "|Fin(2)" + ")" * deep).encode(), None),
-        ("a million negations", with_label("!" * 1_000_000 + "0").encode(), None),
-        ("a label of 250,000 factors", with_label("&".join(["!0"] * 250_000)).encode(), None),
-        ("a label of 250,000 alternatives", with_label("|".join(["0&!0"] * 150_000)).encode(), None),
-        ("half a million marks", with_body("State: 0 [t] 0 {" + "0 " * 500_000 + "} State: 1\n").encode(), None),
-        ("150,000 edges that are none", begin + b"[f] 0 " * 150_000 + b"[t] 0 --END--", None),
+        ("a formula in 50,000 brackets", with_formula(1, "(" * deep + "Inf(0)" + ")" * deep).encode(), None),
+        ("a Streett formula in 50,000 brackets", with_formula(2, "(" * deep + "Fin(0)" + ")" * (deep // 2) + "|" + "(" * deep + "Inf(1)" + ")" * (deep + deep // 2)).encode(), None),
+        ("a Rabin formula in 50,000 brackets", with_formula(3, "(" * deep + "Fin(0)&(" + "(" * deep + "Inf(1)" + ")" * (deep + 1) + "|Fin(2)" + ")" * deep).encode(), None),
+        ("200,000 negations", with_label("!" * 200_000 + "0").encode(), None),
+        ("a label of 60,000 factors", with_label("&".join(["!0"] * 60_000)).encode(), None),
+        ("a label of 40,000 alternatives", with_label("|".join(["0&!0"] * 40_000)).encode(), None),
+        ("150,000 marks", with_body("State: 0 [t] 0 {" + "0 " * 150_000 + "} State: 1\n").encode(), None),
+        ("40,000 edges that are none", begin + b"[f] 0 " * 40_000 + b"[t] 0 --END--", None),
         ("150,000 edges", begin + b"[t] 0 " * 150_000 + b"[t] 0 --END--", (42, len(begin) + 512 * 6 + 2)),
-        ("300,000 items", b"HOA: v1 " + b"x: " * 300_000 + b"Start: 0 Acceptance: 0 t --BODY-- State: 0 --END--", None),
-        ("a million tokens", b"HOA: v1 x: " + b"0 " * 500_000 + b"Start: 0 Acceptance: 0 t --BODY-- State: 0 [t] 0 --END--", None),
+        ("100,000 items", b"HOA: v1 " + b"x: " * 100_000 + b"Start: 0 Acceptance: 0 t --BODY-- State: 0 --END--", None),
+        ("an item of 150,000 numbers", b"HOA: v1 x: " + b"0 " * 150_000 + b"Start: 0 Acceptance: 0 t --BODY-- State: 0 [t] 0 --END--", None),
     ]
     assert all(len(text) <= LONGEST or refusal == (42, LONGEST) for _, text, refusal in texts)
     return texts

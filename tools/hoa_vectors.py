@@ -18,6 +18,8 @@ byte AT on so many bytes are taken out, and these (in hex, - for none) put in th
 
 import subprocess
 import sys
+from functools import lru_cache
+from itertools import chain
 from pathlib import Path
 
 sys.dont_write_bytecode = True
@@ -40,11 +42,17 @@ def line_of(table):
     return f"table {table['states']} {table['start']} {table['kind']} {table['count']} {needs} {hoa_texts.checksum(table['edges'])}"
 
 
+@lru_cache(maxsize=2)
+def table_of(text):
+    """The table that a text stands for; raises hoa_reader.Refused."""
+    return hoa_reader.read(text)
+
+
 def result(text):
     if len(text) > hoa_reader.LONGEST:
         return f"refused {hoa_reader.LIMIT} {hoa_reader.LONGEST}"
     try:
-        return line_of(hoa_reader.read(text))
+        return line_of(table_of(text))
     except hoa_reader.Refused as refused:
         return "refused %d %d" % refused.args[:2]
 
@@ -146,7 +154,7 @@ def fault_of_answer(text, line, answer):
     """What is wrong with judge_hoa's answer to a text with this result, or None."""
     if line.startswith("refused"):
         return job_vectors.fault_of_lines(None, tuple(map(int, line.split()[1:])), answer)
-    table = hoa_reader.read(text)
+    table = table_of(text)
     if line_of(table) != line:
         return f"the stored result is {line}, not {line_of(table)}"
     return job_vectors.fault_of_lines(table, None, answer)
@@ -171,8 +179,7 @@ def tallied(cases, program, fault_of):
 
 
 def run(program):
-    cases = list(stored_texts()) + [case for name in SAMPLES for case in stored_variants(name)] + list(large_texts())
-    return tallied(cases, program, fault_of_answer)
+    return tallied(chain(stored_texts(), *map(stored_variants, SAMPLES), large_texts()), program, fault_of_answer)
 
 
 REFUSAL = "verdict=refused\ncode=%d\nplace=%d\npair=-\nprefix=-\ncycle=-\n"

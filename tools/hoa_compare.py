@@ -1,14 +1,15 @@
 #!/usr/bin/env python3
 """Compares the two readings of the Hanoi format (docs/RULES.md): token by token (tools/hoa_reader.py) and by the grammar (tools/hoa_grammar.py).
 
-  tools/hoa_compare.py [TURNS]     so many thousand random byte strings and texts, 2 if nothing is said; and all beginnings of formulas up to a length
+  tools/hoa_compare.py [TURNS]     so many hundred random texts, 3 if nothing is said, ten times as many random byte strings, and all beginnings of formulas up to a length
 
 tokens    Random bytes have the same tokens.
 formulas  Of all beginnings of formulas, token by token: one machine admits the next token exactly if a formula of the grammar begins so. Of the longer ones, atom by atom,
           the same, and kind and needs are those of the tree.
 texts     For random tokens, mostly texts with a few tokens changed: 40 falls at the first token with which no text of the format begins. Limits set aside, accepted is
-          what the conditions on the tree admit, with the same table; every beginning that is admitted is completed to such a text (so 41 never comes late), and no such
-          text is refused anywhere (so it never comes early). With the limits, accepted is what condition 6 admits besides.
+          what the conditions on the tree admit, with the same table; every beginning that is admitted is completed to such a text (so 41 never comes late); no such text
+          is refused, and what is refused is not completed by any end of what completes the tokens before it (so 41 never comes early). With the limits, accepted is what
+          condition 6 admits besides.
 
 Prints what differs; the last line is the tally."""
 
@@ -21,6 +22,7 @@ sys.dont_write_bytecode = True
 sys.path.insert(0, str(Path(__file__).resolve().parent))
 import hoa_grammar
 import hoa_reader
+import hoa_texts
 from hoa_reader import LIMITS, NO_LIMITS, Fault, Formula, Reader, Refused, Token
 
 passed = failed = 0
@@ -158,6 +160,12 @@ def random_formula(dice, marks):
             return found
 
 
+def known_formula(dice):
+    """A formula of those that were written by hand, with its number of marks."""
+    formula = dice.choice(hoa_texts.BUCHI + list(hoa_texts.RABIN) + 2 * hoa_texts.STREETT)
+    return formula.count("Inf") + formula.count("Fin"), [some_token(token.kind, token.value) for token in hoa_reader.tokens(formula.encode())][:-1]
+
+
 def random_sig(dice, marks):
     return [] if dice.random() < 0.5 else [some_token("{")] + [some_token("INT", dice.randrange(marks)) for _ in range(dice.randrange(4)) if marks] + [some_token("}")]
 
@@ -165,7 +173,8 @@ def random_sig(dice, marks):
 def random_text(dice):
     """The tokens of a text of the subset."""
     n, a, c = dice.randrange(1, 4), dice.randrange(3), dice.randrange(5)
-    items = [[header(b"Start"), some_token("INT", dice.randrange(n))], [header(b"Acceptance"), some_token("INT", c)] + random_formula(dice, c)]
+    c, formula = known_formula(dice) if dice.random() < 0.5 else (c, random_formula(dice, c))
+    items = [[header(b"Start"), some_token("INT", dice.randrange(n))], [header(b"Acceptance"), some_token("INT", c)] + formula]
     if a or dice.random() < 0.5:
         items.append([header(b"AP"), some_token("INT", a)] + [some_token("STRING", b"%d" % i) for i in range(a)])
     may = [[header(b"States"), some_token("INT", n)], [header(b"acc-name"), WORDS[0], some_token("INT", 1)], [header(b"tool"), some_token("STRING", b"x")],
@@ -185,13 +194,20 @@ ANY += [some_token("INT", i) for i in (0, 0, 1, 1, 2, 3, 4, 7, 300)] + [some_tok
 ANY += [header(name) for name in (b"HOA", b"States", b"Start", b"AP", b"Alias", b"Acceptance", b"acc-name", b"tool", b"name", b"properties", b"State", b"other", b"Other")]
 
 
+def alike(token):
+    """The tokens that may stand where this one does, as far as its kind goes."""
+    return [other for other in ANY if other.kind == token.kind or other.kind in "&|" and token.kind in "&|"] or [token]
+
+
 def changed(dice, text):
     """A few tokens put in, taken out, changed or exchanged with others."""
     text = list(text)
     for _ in range(dice.choice((0, 1, 1, 1, 2, 3))):
         at = dice.randrange(len(text))
-        how = dice.randrange(4)
-        if how == 0:
+        how = dice.randrange(8)
+        if how > 3:
+            text[at] = dice.choice(alike(text[at]))
+        elif how == 0:
             text.insert(at, dice.choice(ANY))
         elif how == 1 and len(text) > 1:
             text.pop(at)
@@ -271,26 +287,48 @@ def compare_text(tokens, dice):
     check(fault == place if number == 40 else fault is None or fault > place, shown, free, fault)
     limited = outcome(tokens, LIMITS)
     check(limited == free or limited[0] == 42 and limited[1] <= place and (limited[1] < place or number > 42), shown, free, limited)
-    compare_beginnings(tokens[:place], dice, shown)
+    compare_beginning(tokens[: dice.randrange(place + 1)], shown)
+    end = compare_beginning(tokens[:place], shown)
+    if number == 41 and end is not None:
+        for skipped in range(len(end) + 1):
+            check(hoa_grammar.meaning(tokens[: place + 1] + end[skipped:]) is None, "completed:", shown, place, skipped)
 
 
-def compare_beginnings(tokens, dice, shown):
-    """What was admitted can be completed to a text; of each, one beginning is tried beside the whole."""
-    for length in {len(tokens), dice.randrange(len(tokens) + 1)}:
-        reader = hoa_reader.read_tokens(tokens[:length], NO_LIMITS)
-        if reader.largest > 20 or reader.formula and reader.formula.marks > 20 or (reader.propositions or 0) > 10 or (reader.states or 0) > 20:
-            continue
-        end = fewest(reader)
-        check(end is not None and hoa_grammar.meaning(tokens[:length] + end) is not None, "not completed:", shown, length)
+def compare_beginning(tokens, shown):
+    """What was admitted can be completed to a text; the tokens that do it, unless they would be very many."""
+    reader = hoa_reader.read_tokens(tokens, NO_LIMITS)
+    if reader.largest > 20 or reader.formula and reader.formula.marks > 20 or (reader.propositions or 0) > 10 or (reader.states or 0) > 20:
+        return None
+    end = fewest(reader)
+    check(end is not None and hoa_grammar.meaning(tokens + end) is not None, "not completed:", shown, len(tokens))
+    return end
+
+
+def spelt(tokens, dice):
+    """The tokens as bytes, with blanks and comments between them."""
+    gaps = (b" ", b" ", b"\n", b"\t\r\n", b"/* x */", b" /*\"/**/*/ ")
+    return b"".join(dice.choice(gaps) + bytes_of(token) for token in tokens)
+
+
+def bytes_of(token):
+    forms = {"INT": b"%d", "HEADER": b"%s:", "STRING": b'"%s"', "WORD": b"%s"}
+    others = {"ANAME": b"@a", "BAD": b"?", "FINISH": b""}
+    return forms[token.kind] % token.value if token.kind in forms else others.get(token.kind, token.kind.encode())
+
+
+def random_texts(count, seed=2):
+    """So many texts as bytes, mostly with a few tokens changed."""
+    dice = random.Random(seed)
+    return [spelt(changed(dice, random_text(dice)), dice) for _ in range(count)]
 
 
 def main(turns):
     dice = random.Random(1)
     compare_tokens(turns * 10, dice)
-    for marks in range(4):
+    for marks in range(7):
         compare_formulas(marks, 12, 4, every_token(marks + 1))
-    for marks in range(1, 7):
-        compare_formulas(marks, 4 * marks + 7, 2 if marks > 4 else 3, atom_by_atom)
+    for marks, more, deepest in ((1, 12, 4), (2, 8, 3), (3, 6, 2), (4, 4, 2), (5, 4, 1), (6, 4, 1)):
+        compare_formulas(marks, 4 * marks + more, deepest, atom_by_atom)
     for _ in range(turns):
         compare_text(placed(changed(dice, random_text(dice))), dice)
     print(f"{passed} passed, {failed} failed")
@@ -298,4 +336,4 @@ def main(turns):
 
 
 if __name__ == "__main__":
-    sys.exit(0 if main(1000 * int(sys.argv[1]) if sys.argv[1:] else 2000) else 1)
+    sys.exit(0 if main(100 * int(sys.argv[1]) if sys.argv[1:] else 300) else 1)

@@ -6,6 +6,7 @@
   tools/hoa_vectors.py list                 prints number, name and result of each text
   tools/hoa_vectors.py show NUMBER          prints one text
   tools/hoa_vectors.py run PROGRAM          runs judge_hoa on every stored text and variant, and on large texts besides, and checks the whole printed answer
+  tools/hoa_vectors.py random PROGRAM       runs judge_hoa on random texts, most of them with a few tokens changed, in the same way
   tools/hoa_vectors.py written PROGRAM      runs job_to_hoa on the example jobs and on those of tools/job_vectors.py, and checks all that is written
 
 tests/hoa/texts: for each text its length as a decimal number and a newline, then exactly that many bytes.
@@ -25,6 +26,7 @@ from pathlib import Path
 sys.dont_write_bytecode = True
 ROOT = Path(__file__).resolve().parent.parent
 sys.path.insert(0, str(ROOT / "tools"))
+import hoa_compare
 import hoa_grammar
 import hoa_reader
 import hoa_texts
@@ -33,6 +35,7 @@ import job_vectors
 STORED = ROOT / "tests" / "hoa"
 EXAMPLES = ROOT / "examples"
 SECONDS = 20  # that a program may take for one text
+RANDOM = 3000  # texts
 
 # ---- results -----------------------------------------------------------------------------------------------------------------------
 
@@ -182,6 +185,11 @@ def run(program):
     return tallied(chain(stored_texts(), *map(stored_variants, SAMPLES), large_texts()), program, fault_of_answer)
 
 
+def run_random(program):
+    texts = hoa_compare.random_texts(RANDOM)
+    return tallied(((f"random text {number}: {text!r}", text, result(text)) for number, text in enumerate(texts)), program, fault_of_answer)
+
+
 REFUSAL = "verdict=refused\ncode=%d\nplace=%d\npair=-\nprefix=-\ncycle=-\n"
 
 
@@ -270,6 +278,8 @@ def main(arguments):
             sys.stdout.buffer.write(hoa_texts.all_texts()[int(number)][1])
         case ["run", *program] if program:
             return run(program)
+        case ["random", *program] if program:
+            return run_random(program)
         case ["written", *program] if program:
             return run_writer(program)
         case _:

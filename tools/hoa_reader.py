@@ -192,7 +192,8 @@ class Rabin(Machine):
 
 
 class Streett(Machine):
-    """Of the open brackets the outer ones (`rows`) hold pairs joined by `&`, the next (`fresh`) hold no whole atom, or a left side only; `right` counts those around a right side."""
+    """Of the open brackets the outer ones (`rows`) hold whole pairs, or will; the next (`fresh`) nothing yet, or a left side; behind a `|`, `right` counts those around the
+    right side, and the pair's own bracket is not counted."""
 
     kind = "streett"
 

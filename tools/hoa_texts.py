@@ -25,7 +25,10 @@ def refused(name, number, text):
     TEXTS.append((name, text.replace(MARK, b""), (number, text.index(MARK)), f"refused {number} {text.index(MARK)}"))
 
 
-def automaton(states="States: 2\n", start="Start: 0\n", ap='AP: 1 "a"\n', acc="Acceptance: 1 Inf(0)\n", more="", body="State: 0\n[0] 1 {0}\n[!0] 0\nState: 1\n[t] 0\n", end="--END--\n"):
+ROWS = "State: 0\n[0] 1 {0}\n[!0] 0\nState: 1\n[t] 0\n"
+
+
+def automaton(states="States: 2\n", start="Start: 0\n", ap='AP: 1 "a"\n', acc="Acceptance: 1 Inf(0)\n", more="", body=ROWS, end="--END--\n"):
     return f"HOA: v1\n{states}{start}{ap}{acc}{more}--BODY--\n{body}{end}"
 
 
@@ -283,7 +286,7 @@ def tokens():
     refused("a string whose last quote is escaped", 40, 'HOA: v1 name: <<"\\"')
     refused("a string that ends in a backslash", 40, 'HOA: v1 name: <<"a\\')
     refused("a string that is open at the text's end", 40, automaton() + '<<"')
-    accepted("tokens that touch", automaton().replace("\n", "").replace("States: 2Start:", "States:2Start:").replace("HOA: v1States:", "HOA:v1 States:").replace("State: ", "State:"))
+    accepted("tokens that touch", automaton().replace("\n", "").replace("v1States: 2", "v1 States:2").replace("HOA: ", "HOA:").replace("State: ", "State:"))
     accepted("a number and a word that touch", automaton(more="x: 0abc 12z-9\n"))
     refused("0x1 is a number and a word", 40, automaton(states="States: 0x1\n").replace("0x1", "2<<x1"))
     refused("007 is one faulty number", 40, automaton(start="Start: <<007\n"))
@@ -473,44 +476,61 @@ def rows_of_the_table():
     refused("hoa: behind the end", 40, automaton() + "<<hoa: v1")
     refused("something behind the end and a comment", 40, automaton() + "/* */ <<}")
     accepted("a comment behind the end", automaton() + " /* HOA: v1 */\r\n")
-    for name, text in (("a version", "HOA: "), ("an item", "HOA: v1"), ("a number", "HOA: v1 States: "), ("a formula", "HOA: v1 Acceptance: 1 "), ("a row", "HOA: v1 Start: 0 Acceptance: 0 t --BODY-- ")):
+    begins = {"a version": "HOA: ", "an item": "HOA: v1", "a number": "HOA: v1 States: ", "a formula": "HOA: v1 Acceptance: 1 "}
+    for name, text in (begins | {"a row": "HOA: v1 Start: 0 Acceptance: 0 t --BODY-- "}).items():
         refused(f"the text ends where {name} should stand", 40, text + "<<")
     places = [("a number", "States: <<--ABORT--\n", {"states": ""}), ("a formula", "Acceptance: 1 (Inf(<<--ABORT--\n", {"acc": ""})]
     for name, item, others in places:
         refused(f"given up where {name} should stand", 41, automaton(more=item, **others))
-    for name, body in (("a label", "State: 0 [(0 <<--ABORT--"), ("a target", "State: 0 [0] <<--ABORT--"), ("marks", "State: 0 {<<--ABORT--"), ("a row", "State: <<--ABORT--"), ("rows", "<<--ABORT--")):
-        refused(f"given up in {name}", 41, with_body(body))
+    for name, body in {"a label": "State: 0 [(0 ", "a target": "State: 0 [0] ", "marks": "State: 0 {", "a row": "State: ", "rows": ""}.items():
+        refused(f"given up in {name}", 41, with_body(body + "<<--ABORT--"))
 
 
 # ---- formulas ------------------------------------------------------------------------------------------------------------------------------
 
-BUCHI = ["Inf(0)", "(Inf(0))", "(((Inf(0))))", "Inf(0)&Inf(1)", "(Inf(0)&Inf(1))", "(Inf(0))&(Inf(1))", "Inf(0)&(Inf(1)&Inf(2))", "(Inf(0)&Inf(1))&Inf(2)",
-         "((Inf(0)))&((Inf(1)&(Inf(2))&Inf(3)))", "Inf(0)&Inf(1)&Inf(2)&Inf(3)&Inf(4)&Inf(5)"]
+BUCHI = [
+    "Inf(0)", "(Inf(0))", "(((Inf(0))))", "Inf(0)&Inf(1)", "(Inf(0)&Inf(1))", "(Inf(0))&(Inf(1))", "Inf(0)&(Inf(1)&Inf(2))", "(Inf(0)&Inf(1))&Inf(2)",
+    "((Inf(0)))&((Inf(1)&(Inf(2))&Inf(3)))", "Inf(0)&Inf(1)&Inf(2)&Inf(3)&Inf(4)&Inf(5)",
+]
 RABIN = {"Fin(0)": [0], "(Fin(0))": [0], "((Fin(0)))": [0], "Fin(0)&Inf(1)": [1], "(Fin(0)&Inf(1))": [1], "(Fin(0))&(Inf(1))": [1], "Fin(0)&(Inf(1)&Inf(2))": [2],
          "(Fin(0)&Inf(1))&Inf(2)": [2], "((Fin(0))&Inf(1))&(Inf(2)&(Inf(3)))": [3], "Fin(0)|Fin(1)": [0, 0], "(Fin(0)|Fin(1))": [0, 0], "(Fin(0))|(Fin(1))": [0, 0],
          "(Fin(0)&Inf(1))|(Fin(2)&Inf(3))": [1, 1], "Fin(0)&Inf(1)|Fin(2)&Inf(3)": [1, 1], "Fin(0)|Fin(1)&Inf(2)": [0, 1], "Fin(0)&Inf(1)|Fin(2)": [1, 0],
          "(Fin(0)|(Fin(1)&Inf(2)|Fin(3)))|Fin(4)": [0, 1, 0, 0], "((Fin(0)&Inf(1)&Inf(2)))|((Fin(3))|(Fin(4)&(Inf(5))))": [2, 0, 1],
          "(((Fin(0)|Fin(1))|Fin(2))|Fin(3))": [0, 0, 0, 0], "Fin(0)|(Fin(1)|(Fin(2)|(Fin(3))))": [0, 0, 0, 0]}
-STREETT = ["Fin(0)|Inf(1)", "(Fin(0)|Inf(1))", "((Fin(0)|Inf(1)))", "(Fin(0))|Inf(1)", "Fin(0)|(Inf(1))", "((Fin(0)))|((Inf(1)))", "(((Fin(0)))|((Inf(1))))",
-           "(Fin(0)|Inf(1))&(Fin(2)|Inf(3))", "((Fin(0)|Inf(1))&(Fin(2)|Inf(3)))", "((Fin(0)|Inf(1)))&(((Fin(2))|(Inf(3))))",
-           "(Fin(0)|Inf(1))&((Fin(2)|Inf(3))&(Fin(4)|Inf(5)))", "((Fin(0)|Inf(1))&(Fin(2)|Inf(3)))&(Fin(4)|Inf(5))", "(Fin(0)|Inf(1))&(Fin(2)|Inf(3))&(Fin(4)|Inf(5))"]
+STREETT = [
+    "Fin(0)|Inf(1)", "(Fin(0)|Inf(1))", "((Fin(0)|Inf(1)))", "(Fin(0))|Inf(1)", "Fin(0)|(Inf(1))", "((Fin(0)))|((Inf(1)))", "(((Fin(0)))|((Inf(1))))",
+    "(Fin(0)|Inf(1))&(Fin(2)|Inf(3))", "((Fin(0)|Inf(1))&(Fin(2)|Inf(3)))", "((Fin(0)|Inf(1)))&(((Fin(2))|(Inf(3))))",
+    "(Fin(0)|Inf(1))&((Fin(2)|Inf(3))&(Fin(4)|Inf(5)))", "((Fin(0)|Inf(1))&(Fin(2)|Inf(3)))&(Fin(4)|Inf(5))",
+    "(Fin(0)|Inf(1))&(Fin(2)|Inf(3))&(Fin(4)|Inf(5))",
+]
 # how many marks, the formula up to the faulty token and what may follow
-OUTSIDE = [(0, "<<Inf(0)"), (0, "t<<&t"), (0, "t<<|f"), (0, "(t<<&t)"), (0, "(<<Fin(0))"), (0, "<<x(0)"), (1, "<<t"), (1, "<<f"), (1, "(<<t)"), (1, "Inf(0)<<|t"), (1, "Inf(<<1)"),
-           (1, "Fin(<<1)"), (1, "Inf(0)<<&Inf(1)"), (1, "Fin(0)<<|Inf(1)"), (1, "Fin(0)<<&t"), (2, "Inf(0)<<|Inf(1)"), (2, "Inf(<<1)&Inf(0)"), (2, "Inf(<<1)|Fin(0)"),
-           (2, "Inf(0)&Inf(<<0)"), (2, "Inf(0)&<<Fin(1)"), (2, "Inf(0)<<|Fin(1)"), (2, "(Inf(0)<<|Fin(1))"), (2, "Fin(0)&<<Fin(1)"), (2, "Fin(0)&Inf(<<2)"), (2, "Fin(<<!0)"), (2, "Inf(<<!0)"),
-           (2, "<<Foo(0)"), (2, "<<inf(0)"), (2, "<<FIN(0)"), (2, "<<Fi(0)"), (2, "<<Infinite(0)"), (2, "Inf(0)&<<t"), (2, "Inf(0)&<<Foo(1)"), (3, "Fin(0)&(Inf(1)<<|Inf(2))"),
-           (3, "Fin(0)&Inf(1)&<<Fin(2)"), (3, "(Fin(0)|Fin(1))<<&Inf(2)"), (3, "((Fin(0)|Fin(1)))<<&Inf(2)"), (3, "((Fin(0)|Fin(1))<<&Inf(2))"), (3, "Fin(0)|<<Inf(1)"),
-           (3, "(Fin(0)|<<Inf(1))"), (3, "Fin(0)|(Fin(1)|<<Inf(2))"), (3, "Fin(0)|(<<Inf(1)&Inf(2))"), (3, "Inf(0)&(Inf(1)<<|Inf(2))"), (4, "Fin(0)|<<Inf(1)&Fin(2)|Inf(3)"),
-           (4, "(Fin(0)|Inf(1))&<<Fin(2)|Inf(3)"), (4, "(Fin(0)|Inf(1))<<|(Fin(2)|Inf(3))"), (4, "(Fin(0)|Inf(1)<<|Fin(2))"), (4, "(Fin(0)|Inf(1)<<&Fin(2))"),
-           (4, "((Fin(0)|Inf(1))&(Fin(2)|Inf(3)))<<&(Fin(4)|Inf(5))"), (4, "(Fin(0)|Inf(1))&(Fin(2)<<&Inf(3))"), (4, "(Fin(0)|Inf(1))&(<<Inf(2)|Fin(3))"),
-           (4, "(Fin(0)|Inf(1))&(Fin(2)|<<Fin(3))"), (4, "(Fin(0)|Inf(1))&((Fin(2))<<)|Inf(3)"), (4, "((Fin(0))|Inf(1))&((Fin(2)|Inf(3)<<&Fin(4)))"), (4, "Fin(0)&Inf(1)&(Fin(2))".replace("(Fin", "(<<Fin")),
-           (4, "(Fin(0)&Inf(1))|(Fin(2)&Inf(<<4))"), (4, "(Fin(0)&Inf(1)|Fin(2))<<&Inf(3)"), (4, "(Fin(0)|Fin(1))|(Fin(2)|Fin(3))<<|Fin(4)")]
+OUTSIDE = [
+    (0, "<<Inf(0)"), (0, "t<<&t"), (0, "t<<|f"), (0, "(t<<&t)"), (0, "(<<Fin(0))"), (0, "<<x(0)"), (1, "<<t"), (1, "<<f"), (1, "(<<t)"), (1, "Inf(0)<<|t"),
+    (1, "Inf(<<1)"), (1, "Fin(<<1)"), (1, "Inf(0)<<&Inf(1)"), (1, "Fin(0)<<|Inf(1)"), (1, "Fin(0)<<&t"), (2, "Inf(0)<<|Inf(1)"), (2, "Inf(<<1)&Inf(0)"),
+    (2, "Inf(<<1)|Fin(0)"), (2, "Inf(0)&Inf(<<0)"), (2, "Inf(0)&<<Fin(1)"), (2, "Inf(0)<<|Fin(1)"), (2, "(Inf(0)<<|Fin(1))"), (2, "Fin(0)&<<Fin(1)"),
+    (2, "Fin(0)&Inf(<<2)"), (2, "Fin(<<!0)"), (2, "Inf(<<!0)"), (2, "<<Foo(0)"), (2, "<<inf(0)"), (2, "<<FIN(0)"), (2, "<<Fi(0)"), (2, "<<Infinite(0)"),
+    (2, "Inf(0)&<<t"), (2, "Inf(0)&<<Foo(1)"), (3, "Fin(0)&(Inf(1)<<|Inf(2))"), (3, "Fin(0)&Inf(1)&<<Fin(2)"), (3, "(Fin(0)|Fin(1))<<&Inf(2)"),
+    (3, "((Fin(0)|Fin(1)))<<&Inf(2)"), (3, "((Fin(0)|Fin(1))<<&Inf(2))"), (3, "Fin(0)|<<Inf(1)"), (3, "(Fin(0)|<<Inf(1))"), (3, "Fin(0)|(Fin(1)|<<Inf(2))"),
+    (3, "Fin(0)|(<<Inf(1)&Inf(2))"), (3, "Inf(0)&(Inf(1)<<|Inf(2))"), (4, "Fin(0)|<<Inf(1)&Fin(2)|Inf(3)"), (4, "(Fin(0)|Inf(1))&<<Fin(2)|Inf(3)"),
+    (4, "(Fin(0)|Inf(1))<<|(Fin(2)|Inf(3))"), (4, "(Fin(0)|Inf(1)<<|Fin(2))"), (4, "(Fin(0)|Inf(1)<<&Fin(2))"),
+    (4, "((Fin(0)|Inf(1))&(Fin(2)|Inf(3)))<<&(Fin(4)|Inf(5))"), (4, "(Fin(0)|Inf(1))&(Fin(2)<<&Inf(3))"), (4, "(Fin(0)|Inf(1))&(<<Inf(2)|Fin(3))"),
+    (4, "(Fin(0)|Inf(1))&(Fin(2)|<<Fin(3))"), (4, "(Fin(0)|Inf(1))&((Fin(2))<<)|Inf(3)"), (4, "((Fin(0))|Inf(1))&((Fin(2)|Inf(3)<<&Fin(4)))"),
+    (4, "Fin(0)&Inf(1)&(Fin(2))".replace("(Fin", "(<<Fin")), (4, "(Fin(0)&Inf(1))|(Fin(2)&Inf(<<4))"), (4, "(Fin(0)&Inf(1)|Fin(2))<<&Inf(3)"),
+    (4, "(Fin(0)|Fin(1))|(Fin(2)|Fin(3))<<|Fin(4)"),
+]
 # faults of the format itself
-NO_FORMULA = [(1, "<<!Inf(0)"), (1, "<<0"), (1, "<<&Inf(0)"), (1, "<<)"), (1, "(<<)"), (1, "Inf <<0"), (1, "Inf(<<)"), (1, "Inf(<<x)"), (1, "Inf(0 <<1)"), (1, "Inf(0)<<)"), (1, "Inf(0) <<Inf(1)"),
-              (1, "Inf(0)<<(1)"), (0, "t<<(0)"), (0, "t <<f"), (2, "Inf(0)&<<&Inf(1)"), (2, "Inf(0)&<<)"), (2, "Inf(0)<<!"), (2, "(Inf(0)&Inf(1) <<5)"), (2, "Inf(<<@a)"), (1, "<<\"Inf\""),
-              (2, "Inf(0)&<<{0}"), (2, "Inf(0)<<[0]"), (1, "<<Inf:(0)"), (2, "Inf(0)<<,Inf(1)"), (2, "Inf(0)&<</* x"), (1, "Inf(<<00)"), (1, "Inf(<<2147483648)")]
+NO_FORMULA = [
+    (1, "<<!Inf(0)"), (1, "<<0"), (1, "<<&Inf(0)"), (1, "<<)"), (1, "(<<)"), (1, "Inf <<0"), (1, "Inf(<<)"), (1, "Inf(<<x)"), (1, "Inf(0 <<1)"),
+    (1, "Inf(0)<<)"), (1, "Inf(0) <<Inf(1)"), (1, "Inf(0)<<(1)"), (0, "t<<(0)"), (0, "t <<f"), (2, "Inf(0)&<<&Inf(1)"), (2, "Inf(0)&<<)"), (2, "Inf(0)<<!"),
+    (2, "(Inf(0)&Inf(1) <<5)"), (2, "Inf(<<@a)"), (1, "<<\"Inf\""), (2, "Inf(0)&<<{0}"), (2, "Inf(0)<<[0]"), (1, "<<Inf:(0)"), (2, "Inf(0)<<,Inf(1)"),
+    (2, "Inf(0)&<</* x"), (1, "Inf(<<00)"), (1, "Inf(<<2147483648)"),
+]
 # formulas that end too early: the next token is told
-TOO_SHORT = [(1, ""), (2, "Inf(0)"), (2, "(Inf(0))"), (2, "Fin(0)"), (3, "Inf(0)&Inf(1)"), (3, "Fin(0)|Fin(1)"), (4, "(Fin(0)|Inf(1))"), (4, "((Fin(0)|Inf(1)))"), (4, "(Fin(0)&Inf(1))"), (32, "Inf(0)")]
+TOO_SHORT = [
+    (2, "Inf(0)"), (2, "(Inf(0))"), (2, "Fin(0)"), (3, "Inf(0)&Inf(1)"), (3, "Fin(0)|Fin(1)"), (4, "(Fin(0)|Inf(1))"), (4, "((Fin(0)|Inf(1)))"),
+    (4, "(Fin(0)&Inf(1))"), (32, "Inf(0)"),
+]
+BEHIND = {"--BODY--": 41, "Start: 0 --BODY--": 41, "x: 1 --BODY--": 41, "--ABORT--": 41, "State: 0": 40, "5": 40, "x": 40, "": 40}
 
 
 def formulas():
@@ -530,10 +550,9 @@ def formulas():
     for number, texts in ((41, OUTSIDE), (40, NO_FORMULA)):
         for marks, formula in texts:
             refused(f"{marks}: {formula}", number, with_formula(marks, formula))
-    for marks, formula in TOO_SHORT[1:]:
-        for behind, number in (("<<--BODY--", 41), ("<<Start: 0 --BODY--", 41), ("<<x: 1 --BODY--", 41), ("<<--ABORT--", 41), ("<<State: 0", 40), ("<<5", 40), ("<<x", 40), ("<<", 40)):
-            if formula in ("Inf(0)", "(Fin(0)|Inf(1))"):
-                refused(f"{marks}: {formula} and {behind}", number, f"HOA: v1 Start: 0 Acceptance: {marks} {formula} {behind}")
+    for marks, formula in TOO_SHORT:
+        for behind, number in BEHIND.items() if formula in ("Inf(0)", "(Fin(0)|Inf(1))") else ():
+            refused(f"{marks}: {formula} and {behind}", number, f"HOA: v1 Start: 0 Acceptance: {marks} {formula} <<{behind}")
         refused(f"{marks}: {formula} and no more", 41, with_formula(marks, formula).replace("--BODY--", "<<--BODY--"))
     refused("a formula is missing", 40, "HOA: v1 Start: 0 Acceptance: 1 <<--BODY--")
     refused("the number of marks is missing", 40, "HOA: v1 Start: 0 Acceptance: <<Inf(0) --BODY--")
@@ -544,9 +563,18 @@ def formulas():
 # ---- labels ----------------------------------------------------------------------------------------------------------------------------------
 
 # labels over two propositions that some valuation satisfies, and that none does
-SATISFIABLE = ["t", "!f", "0", "!0", "0&1", "0|1", "!0&!1", "!(0&1)", "0&!1|!0&1", "!!0", "!!!1", "((0))", "(0|1)&!(0&1)", "f|0", "t&1", "0&0", "!0|0", "!(!0)", "!0|f&1", "0|0&!0", "!(0&!0)"]
-UNSATISFIABLE = ["f", "!t", "0&!0", "!0&0", "0&f", "f&t", "f|f", "(0|1)&!0&!1", "!(0|!0)", "(0&1)&!(1&0)", "!!f", "0&!(0|1)", "0&1&!0", "!0&(0|f)", "!(!0|0)", "(((0)))&((!(0)))", "!(t|1)", "0&!0|1&!1"]
-NO_LABEL = ["<<", "0 <<1", "0&<<", "<<&0", "0&<<|1", "<<x", "0<<!1", "!<<", "(0<<", "0<<)", "(<<)", "<<[0]", "t<<(0)", "<<T", "<<true", "0&<<{0}", "0<<,1", "<<\"p0\"", "<<Inf(0)", "0|<<--END--", "0 <<t", "!<<&0"]
+SATISFIABLE = [
+    "t", "!f", "0", "!0", "0&1", "0|1", "!0&!1", "!(0&1)", "0&!1|!0&1", "!!0", "!!!1", "((0))", "(0|1)&!(0&1)", "f|0", "t&1", "0&0", "!0|0", "!(!0)", "!0|f&1",
+    "0|0&!0", "!(0&!0)",
+]
+UNSATISFIABLE = [
+    "f", "!t", "0&!0", "!0&0", "0&f", "f&t", "f|f", "(0|1)&!0&!1", "!(0|!0)", "(0&1)&!(1&0)", "!!f", "0&!(0|1)", "0&1&!0", "!0&(0|f)", "!(!0|0)",
+    "(((0)))&((!(0)))", "!(t|1)", "0&!0|1&!1",
+]
+NO_LABEL = [
+    "<<", "0 <<1", "0&<<", "<<&0", "0&<<|1", "<<x", "0<<!1", "!<<", "(0<<", "0<<)", "(<<)", "<<[0]", "t<<(0)", "<<T", "<<true", "0&<<{0}", "0<<,1", "<<\"p0\"",
+    "<<Inf(0)", "0|<<--END--", "0 <<t", "!<<&0",
+]
 
 
 def labels():
@@ -582,7 +610,8 @@ def checksum(edges):
 
 def results():
     def back(name, body, edges, marks=3, **more):
-        accepted(name, with_body(body, acc=f"Acceptance: {marks} {'&'.join(f'Inf({i})' for i in range(marks))}\n", **more), f"table 2 0 buchi {marks} 0,0,0,0,0,0,0,0 {checksum(edges)}")
+        formula = "&".join(f"Inf({i})" for i in range(marks))
+        accepted(name, with_body(body, acc=f"Acceptance: {marks} {formula}\n", **more), f"table 2 0 buchi {marks} 0,0,0,0,0,0,0,0 {checksum(edges)}")
 
     back("rows in order", "State: 0 [t] 1 State: 1 [t] 0", [(0, 1, 0), (1, 0, 0)])
     back("rows in another order are sorted", "State: 1 [t] 0 {0} State: 0 [t] 1 {1}", [(0, 1, 2), (1, 0, 1)])
@@ -654,7 +683,8 @@ def limits():
     accepted("16 Streett pairs", with_formula(32, streett), "table 1 0 streett 16 ")
     pairs = "|".join(f"Fin({i})" for i in range(8))
     accepted("8 Rabin pairs", with_formula(8, pairs), "table 1 0 rabin 8 0,0,0,0,0,0,0,0 1 ")
-    accepted("8 Rabin pairs with 3 needed marks each", with_formula(32, "|".join(f"(Fin({4 * i})&Inf({4 * i + 1})&Inf({4 * i + 2})&Inf({4 * i + 3}))" for i in range(8))), "table 1 0 rabin 8 3,3,3,3,3,3,3,3 1 ")
+    needing = "|".join(f"(Fin({i})&Inf({i + 1})&Inf({i + 2})&Inf({i + 3}))" for i in range(0, 32, 4))
+    accepted("8 Rabin pairs with 3 needed marks each", with_formula(32, needing), "table 1 0 rabin 8 3,3,3,3,3,3,3,3 1 ")
     accepted("a Rabin pair with 31 needed marks", with_formula(32, "&".join(["Fin(0)"] + [f"Inf({i})" for i in range(1, 32)])), "table 1 0 rabin 1 31,")
     refused("9 Rabin pairs", 42, with_formula(9, pairs + "<<|Fin(8)"))
     refused("9 Rabin pairs, in brackets", 42, with_formula(10, f"(({pairs})<<|(Fin(8)&Inf(9)))"))
@@ -706,7 +736,7 @@ def padded(text, length):
 
 def large_texts():
     whole = automaton().encode()
-    deep = 50_000
+    deep, half = 50_000, 25_000
     names = [b"x" * 160_000 + bytes([65 + i]) for i in range(6)]
     six = b"AP: 6 " + b" ".join(b'"%s"' % name for name in names) + b"\n"
     begin = b"HOA: v1 Start: 0 Acceptance: 0 t --BODY-- State: 0 "
@@ -728,7 +758,7 @@ def large_texts():
         ("a word of a million letters", b"HOA: v1 x: " + b"a-" * 500_000 + b" --BODY--", (41, 1_000_012)),
         ("six names that differ in their last of 160,000 bytes", automaton(ap="@@", body="State: 0 [5] 1 State: 1\n").encode().replace(b"@@", six), None),
         ("a formula in 50,000 brackets", with_formula(1, "(" * deep + "Inf(0)" + ")" * deep).encode(), None),
-        ("a Streett formula in 50,000 brackets", with_formula(2, "(" * deep + "Fin(0)" + ")" * (deep // 2) + "|" + "(" * deep + "Inf(1)" + ")" * (deep + deep // 2)).encode(), None),
+        ("a Streett formula in 50,000 brackets", with_formula(2, "(" * 2 * half + "Fin(0)" + ")" * half + "|" + "(" * half + "Inf(1)" + ")" * 2 * half).encode(), None),
         ("a Rabin formula in 50,000 brackets", with_formula(3, "(" * deep + "Fin(0)&(" + "(" * deep + "Inf(1)" + ")" * (deep + 1) + "|Fin(2)" + ")" * deep).encode(), None),
         ("200,000 negations", with_label("!" * 200_000 + "0").encode(), None),
         ("a label of 60,000 factors", with_label("&".join(["!0"] * 60_000)).encode(), None),

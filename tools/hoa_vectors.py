@@ -92,7 +92,10 @@ STREETT = hoa_texts.SPOT_STREETT.encode()
 HAND = hoa_texts.HAND.encode()
 MANY = b'\0 \xff"\\/09At:-)&|!'
 FEW = b' "/9:'
-PUT = [b"0", b"3", b"300", b"x", b"t", b"x:", b"State:", b"HOA:", b"AP:", b'"s"', b"@a", b"(", b")", b"[", b"]", b"{", b"}", b"&", b"|", b"!", b"--BODY--", b"--END--", b"--ABORT--", b"?"]
+PUT = [
+    b"0", b"3", b"300", b"x", b"t", b"x:", b"State:", b"HOA:", b"AP:", b'"s"', b"@a", b"(", b")", b"[", b"]", b"{", b"}", b"&", b"|", b"!", b"--BODY--",
+    b"--END--", b"--ABORT--", b"?",
+]
 SAMPLES = {"rabin": (RABIN, MANY, PUT), "streett": (STREETT, FEW, PUT[::3]), "hand": (HAND, b"", PUT[::6])}
 
 

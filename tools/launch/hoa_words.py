@@ -12,6 +12,7 @@ from manners import FIRST
 
 CAUSES = {SYNTAX: "not of the Hanoi format, version 1", SUBSET: "outside of what is read", LIMIT: "above the limits"}
 MOST_LINES = 12  # that are named of a prefix or a cycle
+MOST_LOOKED = 131_072  # bytes that are looked at to be helpful: the answer must not wait for its words
 
 
 def begins(first):
@@ -38,6 +39,8 @@ def lines_of(text, places, edges):
 
 
 def where(text, prefix, cycle):
+    if len(text) > MOST_LOOKED:
+        return ""
     try:
         places = hoa_reader.read_tokens(hoa_reader.tokens(text)).edge_places()
     except hoa_reader.Refused:
@@ -60,6 +63,8 @@ def refused(text, code, place):
 
 
 def reason(text, code, place):
+    if place > MOST_LOOKED:
+        return ""
     try:
         hoa_reader.read(text)
     except hoa_reader.Refused as refusal:

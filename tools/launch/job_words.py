@@ -5,47 +5,18 @@ What the words rest on is the printed answer; the job text is only looked at to 
 
 import re
 
-from manners import EMPTY, REFUSED, RUN
+import answers
+from answers import shown
 
 LONGEST = 12_288
 LIMITS = {"states": "256 states", "edges": "512 edges"}
 COUNTS = {"buchi": "32 marks", "streett": "16 pairs", "rabin": "8 pairs"}
-STATUS = {b"empty": EMPTY, b"run": RUN, b"refused": REFUSED}
-
-NUMBERS = rb"(-|\d+(?:,\d+)*)"
-ANSWER = re.compile(rb"verdict=(run|empty|refused)\ncode=(\d+)\nplace=(\d+)\npair=(-|\d+)\nprefix=" + NUMBERS + rb"\ncycle=" + NUMBERS + rb"\n")
 
 
 def read_answer(text, output):
     """The exit status and the sentence; None if the output is no printed answer."""
-    found = ANSWER.fullmatch(output)
-    if not found:
-        return None
-    verdict, code, place, prefix, cycle = found[1], int(found[2]), int(found[3]), found[5], found[6]
-    if (verdict == b"refused") != (code != 0) or (verdict == b"run") != (cycle != b"-"):
-        return None
-    if verdict == b"empty":
-        sentence = "empty: no endless run meets the condition"
-    elif verdict == b"run":
-        first = "" if prefix == b"-" else f"{counted(prefix)} first, then "
-        sentence = f"run: an endless run meets the condition: {first}{counted(cycle)} round and round (edge 0 is line {Job(text).first_edge} of the job)"
-    else:
-        try:
-            sentence = "refused: " + refused(Job(text), code, place)
-        except (ValueError, LookupError):  # words are a courtesy: no surprise in a text may cost the answer
-            sentence = f"refused: code {code}, place {place}"
-    return STATUS[verdict], sentence
-
-
-def counted(numbers):
-    count = numbers.count(b",") + 1
-    return f"{count} edge{'s' if count > 1 else ''}"
-
-
-def shown(some):
-    """Some bytes of a job, fit for a terminal."""
-    text = some[:24].decode("ascii", "backslashreplace") + (".." if len(some) > 24 else "")
-    return "`" + "".join(c if c.isprintable() else f"\\x{ord(c):02x}" for c in text) + "`"
+    job = Job(text)
+    return answers.read_answer(output, lambda prefix, cycle: f" (edge 0 is line {job.first_edge} of the job)", lambda code, place: refused(job, code, place))
 
 
 class Job:

@@ -12,14 +12,23 @@ import re
 import signal
 import subprocess
 import sys
+from collections import namedtuple
 from pathlib import Path
 
 EMPTY, RUN, REFUSED, NO_ANSWER = 0, 1, 2, 3
+WRITTEN = 0  # of a program that writes a text
 SAID = 40  # tools/launch/run takes a status from here on for what was said, and all others for an accident
 INPUT = 9  # standard input, as tools/launch/run hands it on
 
 ROOT = Path(__file__).resolve().parent.parent.parent
 PATIENCE = 2  # seconds after which it is said that a build goes on
+
+
+FIRST = 12_288  # the bytes of an input by which its form is told
+
+# A form of input. `program`: the crate that takes it; `longest`: the most bytes that the program takes; `read_answer` takes the input and what the program wrote, and
+# gives the status and the sentence, or None if what was written is no answer.
+Form = namedtuple("Form", "program longest read_answer")
 
 
 class NoAnswer(Exception):
@@ -55,22 +64,31 @@ def tell(name, sentence):
         pass  # nobody listens; the exit status says it too
 
 
-def read_input(file, longest):
-    """The input, or as much of it as shows that it is longer than `longest`: endless input is not read to its end."""
+def read_until(descriptor, text, longest):
+    """Reads on, until the text is longer than `longest` or the input ends; whether it ended."""
+    while len(text) <= longest:
+        part = os.read(descriptor, longest + 1 - len(text))
+        if not part:
+            return True
+        text += part
+    return False
+
+
+def read_input(file, form_of):
+    """The input, or as much of it as shows that it is longer than its form may be: endless input is not read to its end. And its form."""
     name = "standard input" if file is None else file
     text = bytearray()
     try:
         descriptor = INPUT if file is None else os.open(file, os.O_RDONLY)
-        while len(text) <= longest:
-            part = os.read(descriptor, longest + 1 - len(text))
-            if not part:
-                break
-            text += part
+        ended = read_until(descriptor, text, FIRST)
+        form = form_of(bytes(text))
+        if not ended:
+            read_until(descriptor, text, form.longest)
     except BlockingIOError:
         raise NoAnswer(f"{name} does not wait for its writer (it is non-blocking) and had nothing more to give: try `cat |`") from None
     except (OSError, ValueError) as error:
         raise NoAnswer(f"{name} can't be read: {getattr(error, 'strerror', error)}") from None
-    return bytes(text)
+    return bytes(text), form
 
 
 def write_output(output):
@@ -216,7 +234,7 @@ def parsed(words, use):
     return None, quiet, files[0] if files else None
 
 
-def answer_to(words, program, use, longest, read_answer):
+def answer_to(words, name, use, awaited, form_of):
     """The launcher's work, and its status."""
     output_open = settle_descriptors()
     print_only, quiet, file = parsed(words, use)
@@ -225,14 +243,14 @@ def answer_to(words, program, use, longest, read_answer):
     if print_only is not None:
         write_output(print_only.encode())
         return 0
-    say = (lambda sentence: None) if quiet else (lambda sentence: tell(program, sentence))
+    say = (lambda sentence: None) if quiet else (lambda sentence: tell(name, sentence))
     if file is None and not is_open(INPUT):
         raise NoAnswer("standard input is closed, there is nothing to read")
     if file is None and os.isatty(INPUT):
-        say("waiting for a job on standard input; Ctrl-D on a line of its own ends it")
-    text = read_input(file, longest)
-    output = run(built_program(program, say), text)
-    answer = read_answer(text, output)
+        say(f"waiting for {awaited} on standard input; Ctrl-D on a line of its own ends it")
+    text, form = read_input(file, form_of)
+    output = run(built_program(form.program, say), text)
+    answer = form.read_answer(text, output)
     if answer is None:
         raise NoAnswer("what the program wrote is no answer")
     write_output(output)
@@ -241,13 +259,12 @@ def answer_to(words, program, use, longest, read_answer):
     return status
 
 
-def main(program, use, longest, read_answer):
-    """A launcher. `program`: its crate; `longest`: the most bytes that the program takes; `read_answer` takes the input and what the program wrote, and gives the
-    status and the sentence, or None if what was written is no answer."""
+def main(name, use, awaited, form_of):
+    """A launcher. `name`: its own; `awaited`: what it reads, in words; `form_of` takes the first bytes of the input, and gives its form."""
     signal.signal(signal.SIGINT, signal.SIG_DFL)
     try:
-        status = answer_to(sys.argv[1:], program, use, longest, read_answer)
+        status = answer_to(sys.argv[1:], name, use, awaited, form_of)
     except (NoAnswer, OSError) as why:
-        tell(program, f"no answer: {why}")
+        tell(name, f"no answer: {why}")
         status = NO_ANSWER
     sys.exit(SAID + status)

@@ -1,0 +1,51 @@
+"""The printed answer of the judges in plain words, whatever the text was written in. Used by the launchers; not a command by itself."""
+
+import re
+
+from manners import EMPTY, REFUSED, RUN
+
+STATUS = {b"empty": EMPTY, b"run": RUN, b"refused": REFUSED}
+NUMBERS = rb"(-|\d+(?:,\d+)*)"
+ANSWER = re.compile(rb"verdict=(run|empty|refused)\ncode=(\d+)\nplace=(\d+)\npair=(-|\d+)\nprefix=" + NUMBERS + rb"\ncycle=" + NUMBERS + rb"\n")
+
+
+def read_answer(output, where, refused):
+    """The exit status and the sentence; None if the output is no printed answer. `where` says for a prefix and a cycle where their edges stand, `refused` for a code and
+    a place what is wrong there."""
+    found = ANSWER.fullmatch(output)
+    if not found:
+        return None
+    verdict, code, place, prefix, cycle = found[1], int(found[2]), int(found[3]), found[5], found[6]
+    if (verdict == b"refused") != (code != 0) or (verdict == b"run") != (cycle != b"-"):
+        return None
+    if verdict == b"empty":
+        sentence = "empty: no endless run meets the condition"
+    elif verdict == b"run":
+        first = "" if prefix == b"-" else f"{counted(prefix)} first, then "
+        sentence = f"run: an endless run meets the condition: {first}{counted(cycle)} round and round{told(where, prefix, cycle)}"
+    else:
+        sentence = "refused: " + (told(refused, code, place) or f"code {code}, place {place}")
+    return STATUS[verdict], sentence
+
+
+def told(words, *about):
+    """Words are a courtesy: no surprise in a text may cost the answer."""
+    try:
+        return words(*about)
+    except (ValueError, LookupError):
+        return ""
+
+
+def numbers_of(listed):
+    return [] if listed == b"-" else [int(number) for number in listed.split(b",")]
+
+
+def counted(numbers):
+    count = len(numbers_of(numbers))
+    return f"{count} edge{'s' if count > 1 else ''}"
+
+
+def shown(some):
+    """Some bytes of a text, fit for a terminal."""
+    text = some[:24].decode("ascii", "backslashreplace") + (".." if len(some) > 24 else "")
+    return "`" + "".join(c if c.isprintable() else f"\\x{ord(c):02x}" for c in text) + "`"

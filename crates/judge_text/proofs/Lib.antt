@@ -10,3 +10,5 @@ pub mod Telling
 pub mod Replies
 -- Unique: two allowed results are the same, the lasso aside
 pub mod Unique
+-- HoaTelling: from what the reader of the Hanoi format, the judge and the printer give to the whole promise
+pub mod HoaTelling

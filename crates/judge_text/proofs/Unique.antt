@@ -13,6 +13,7 @@ use Rattle.job_text.specs.Job.{Outcome, job, fault, readJob}
 use Rattle.job_text.specs.Printed.{topText, answerText}
 use Rattle.judging.proofs.Unique.{Alike, answers-alike}
 use Rattle.judge_text.specs.Replied.{jobTable, lentRoom, lentScratch, ReplyTo, Holds, Replied}
+use Rattle.judge_text.specs.HoaReplied.{hoaOutcome, HoaReplied}
 use Rattle.judge_text.specs.Reply.{TwoRuns}
 
 -- by the verdicts
@@ -51,11 +52,21 @@ same-cells {printed} {printed'} {out} {out'} {size} {size'} e H K =
     let n : size ≡ size' = H .all ∙ ap length e ∙ sym (K .all) in
     (H .cells ∙ rw (e, n) (sym (K .cells)), n)
 
+-- one outcome, one reply
+one-by : (o : Outcome) {printed printed' out out' : List ℕ} {size size' : ℕ} → ReplyTo o printed → ReplyTo o printed' → Holds printed out size → Holds printed' out' size'
+    → ((out ≡ out') × (size ≡ size')) ⊎ TwoRuns printed printed'
+one-by o {printed} {printed'} {out} {out'} {size} {size'} s s' H K = by (same-printed o printed printed' s s')
+  where
+    by : (printed ≡ printed') ⊎ TwoRuns printed printed' → ((out ≡ out') × (size ≡ size')) ⊎ TwoRuns printed printed'
+    by (inl e) = inl (same-cells e H K)
+    by (inr r) = inr r
+
 -- one text, one reply
 pub one-reply : (text out out' : List ℕ) (size size' : ℕ) (T : Replied text out size) (U : Replied text out' size')
     → ((out ≡ out') × (size ≡ size')) ⊎ TwoRuns (T .printed) (U .printed)
-one-reply text out out' size size' T U = by (same-printed (readJob text) (T .printed) (U .printed) (T .says) (U .says))
-  where
-    by : (T .printed ≡ U .printed) ⊎ TwoRuns (T .printed) (U .printed) → ((out ≡ out') × (size ≡ size')) ⊎ TwoRuns (T .printed) (U .printed)
-    by (inl e) = inl (same-cells e (T .held) (U .held))
-    by (inr r) = inr r
+one-reply text out out' size size' T U = one-by (readJob text) (T .says) (U .says) (T .held) (U .held)
+
+-- .. and so for a text of the Hanoi format
+pub one-hoa-reply : (text out out' : List ℕ) (size size' : ℕ) (T : HoaReplied text out size) (U : HoaReplied text out' size')
+    → ((out ≡ out') × (size ≡ size')) ⊎ TwoRuns (T .printed) (U .printed)
+one-hoa-reply text out out' size size' T U = one-by (hoaOutcome text) (T .says) (U .says) (T .held) (U .held)

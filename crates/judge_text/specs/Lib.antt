@@ -4,3 +4,5 @@ pub mod Replied
 pub mod Reply
 -- inner: what private contracts go by
 pub mod inner
+-- HoaReplied: what `judge_hoa` gives for a text of the Hanoi format, the whole promise from bytes to bytes
+pub mod HoaReplied

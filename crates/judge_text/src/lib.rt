@@ -1,5 +1,8 @@
 // From bytes to bytes: a job text in, the printed answer out, for every byte string (docs/RULES.md, "The job text and the printed answer"). Reads by
-// `job_text`, judges by `judging`, prints by `job_text`. What a text is answered is in specs/Replied.antt.
+// `job_text`, judges by `judging`, prints by `job_text`. What a text is answered is in specs/Replied.antt. The same for a text of the Hanoi format, read by
+// `hoa`: specs/HoaReplied.antt.
+use hoa::HoaFinding;
+use hoa::read_hoa;
 use job_text::printer::Printed;
 use job_text::printer::print;
 use job_text::reader::read;
@@ -13,10 +16,14 @@ ghost use Rattle.job_text.specs.Printed.{answerText, mostPrinted};
 ghost use Rattle.table.specs.Table.{lent};
 ghost use Rattle.job_text.specs.Job.{mostJobStates, mostJobEdges};
 ghost use Rattle.judge_text.specs.Replied.{refusedText, Holds, Replied};
+ghost use Rattle.judge_text.specs.HoaReplied.{HoaReplied};
 ghost use Rattle.judge_text.specs.inner.{Judged};
 
 // No printed answer is longer: at most 8,703 edge numbers of three digits with their commas, and what stands around them.
 pub const MOST_PRINTED: usize = 34932;
+
+// The longest text of the Hanoi format that is judged.
+pub const MOST_HOA: usize = 1048576;
 
 // What the judge is lent: enough for 256 states, 512 edges and 32 marks.
 const LENT_ROOM: usize = 8703;
@@ -98,6 +105,37 @@ pub fn judge_text(text: &[u8], out: &mut [u8; MOST_PRINTED]) -> usize
     answer_job(
         job.states,
         job.start,
+        &from[0..m],
+        &to[0..m],
+        &marks[0..m],
+        condition,
+        needs,
+        out,
+    )
+}
+
+// The printed answer to a text of the Hanoi format and zeros after it, in `out`; gives its length. For every text: one that is too long or that the reader
+// refuses is told, what is read is judged.
+pub fn judge_hoa(text: &[u8], out: &mut [u8; MOST_PRINTED]) -> usize
+    ensures { λ r. ⌜ HoaReplied (now (text .entry)) (now (out .exit)) r ⌝ }
+{
+    if MOST_HOA < text.len() {
+        return show_refused(42, 1048576, out);
+    }
+    let mut from = [0u32; 512];
+    let mut to = [0u32; 512];
+    let mut marks = [0u32; 512];
+    let hoa = read_hoa(text, &mut from, &mut to, &mut marks);
+    let finding = hoa.finding;
+    if let HoaFinding::Refused { number, place } = finding {
+        return show_refused(number, place as u32, out);
+    }
+    let m = hoa.edges as usize;
+    let condition = hoa.condition;
+    let needs = hoa.needs;
+    answer_job(
+        hoa.states,
+        hoa.start,
         &from[0..m],
         &to[0..m],
         &marks[0..m],

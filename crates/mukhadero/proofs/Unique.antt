@@ -14,8 +14,10 @@ use Rattle.judging.proofs.Unique.{Alike, answers-alike}
 use Rattle.one_mark.proofs.Faithful.{one-result}
 use Rattle.mukhadero.specs.declared.AnswerNumbers.{AnswerNumbers}
 use Rattle.mukhadero.specs.declared.TableNumbers.{TableNumbers}
-use Rattle.mukhadero.specs.declared.hoa.TextNumbers.{TextNumbers}
-use Rattle.mukhadero.specs.Hoa.{WriteTells, textNumbers}
+use Rattle.hoa.proofs.Returning.{read-once as once}
+use Rattle.mukhadero.specs.declared.hanoi.HoaNumbers.{HoaNumbers}
+use Rattle.mukhadero.specs.declared.hanoi.TextNumbers.{TextNumbers}
+use Rattle.mukhadero.specs.Hoa.{ReadTells, WriteTells, hoaNumbers, textNumbers}
 use Rattle.mukhadero.specs.Numbers.{JudgeTells, TranslationTells, answerNumbers, tableNumbers}
 
 -- ---- the judge
@@ -79,6 +81,15 @@ translation-once t k from to marks r s {from₁} {to₁} {marks₁} {from₂} {t
       to-lists = one .to-lists;
       marks-lists = one .marks-lists;
     }
+
+-- ---- the reader of the Hanoi format
+
+pub read-once : (text from to marks : List ℕ) (r s : HoaNumbers) {from₁ to₁ marks₁ from₂ to₂ marks₂ : List ℕ}
+    → ReadTells text from to marks r from₁ to₁ marks₁ → ReadTells text from to marks s from₂ to₂ marks₂
+    → (r ≡ s) × ((from₁ ≡ from₂) × ((to₁ ≡ to₂) × (marks₁ ≡ marks₂)))
+read-once text from to marks r s R S =
+    let one = once (R .promised) (S .promised) in
+    (R .told ∙ ap hoaNumbers (one .0) ∙ sym (S .told), one .1)
 
 -- ---- the writer of the Hanoi format
 

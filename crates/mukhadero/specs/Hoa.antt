@@ -1,13 +1,62 @@
--- What the C face tells of the Hanoi format (docs/RULES.md, "The Hanoi format"): the numbers of what the writer promises. Assumes nothing.
+-- What the C face tells of the Hanoi format (docs/RULES.md, "The Hanoi format"): the numbers of what the reader and the writer promise. Assumes nothing.
 use mathlib.Core.Path.{_≡_}
 use mathlib.Core.List.{List}
 use Prim.Native.Nat.{ℕ}
 use Rattle.table.specs.declared.Acceptance.{Acceptance}
+use Rattle.table.specs.declared.Acceptance.the-variants.{Buchi, Streett, Rabin}
 use Rattle.table.specs.Table.{Table}
+use Rattle.hoa.specs.declared.Hoa.{Hoa}
+use Rattle.hoa.specs.declared.HoaFinding.{HoaFinding}
+use Rattle.hoa.specs.declared.HoaFinding.the-variants.{Read, Refused}
+use Rattle.hoa.specs.Returned.{ReadInto}
 use Rattle.hoa_writer.specs.declared.Written.{Written}
 use Rattle.hoa_writer.specs.declared.Written.the-variants as written
 use Rattle.hoa_writer.specs.Writing.{Writes}
-use Rattle.mukhadero.specs.declared.hoa.TextNumbers.{TextNumbers}
+use Rattle.mukhadero.specs.declared.hanoi.HoaNumbers.{HoaNumbers}
+use Rattle.mukhadero.specs.declared.hanoi.TextNumbers.{TextNumbers}
+
+-- ---- the reader
+
+-- "kind: 0 buchi, 1 streett, 2 rabin"
+abbrev pub acceptanceKind : Acceptance → ℕ
+acceptanceKind (Buchi k) = 0
+acceptanceKind (Streett p) = 1
+acceptanceKind (Rabin p) = 2
+
+-- the marks of a Büchi condition, the pairs of the others
+abbrev pub acceptanceCount : Acceptance → ℕ
+acceptanceCount (Buchi k) = k
+acceptanceCount (Streett p) = p
+acceptanceCount (Rabin p) = p
+
+-- 0 and 0 where the text is read
+abbrev pub findingNumber : HoaFinding → ℕ
+findingNumber Read = 0
+findingNumber (Refused number place) = number
+
+abbrev pub findingPlace : HoaFinding → ℕ
+findingPlace Read = 0
+findingPlace (Refused number place) = place
+
+-- its answer in plain numbers
+abbrev pub hoaNumbers : Hoa → HoaNumbers
+hoaNumbers h =
+    record {
+      number = findingNumber (h .finding);
+      kind = acceptanceKind (h .condition);
+      place = findingPlace (h .finding);
+      states = h .states;
+      start = h .start;
+      edges = h .edges;
+      count = acceptanceCount (h .condition);
+      needs = h .needs;
+    }
+
+-- the numbers are those of the answer that the reader promises for this text and these tables, and the tables hold what it promises
+pub record ReadTells (text from to marks : List ℕ) (r : HoaNumbers) (from' to' marks' : List ℕ) : Type 0 where
+  pub answer : Hoa
+  pub promised : ReadInto text from to marks from' to' marks' answer
+  pub told : r ≡ hoaNumbers answer
 
 -- ---- the writer
 

@@ -1,6 +1,6 @@
 // The C face, as include/mukhadero.h declares it: the proved judge and the proved translation under C names, with their answers in plain numbers.
-// Each function takes any input; relies on `judging` and `one_mark` for all that it says. The Hanoi format is in `hoa`.
-mod hoa;
+// Each function takes any input; relies on `judging` and `one_mark` for all that it says. The Hanoi format is in `hanoi`.
+mod hanoi;
 
 ghost use mathlib.Core.Path.{_≡_};
 ghost use Rattle.table.specs.Table.{lent};

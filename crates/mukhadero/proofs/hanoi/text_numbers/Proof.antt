@@ -2,8 +2,8 @@
 use mathlib.Core.Path.{sym, ap}
 use borrow.Author.Needs.{needs}
 use Rattle.mukhadero.specs.Hoa.{textNumbers}
-use Rattle.mukhadero.proofs.hoa.text_numbers.Statement.{statement}
-use Rattle.mukhadero.proofs.hoa.text_numbers.Tie as tie
+use Rattle.mukhadero.proofs.hanoi.text_numbers.Statement.{statement}
+use Rattle.mukhadero.proofs.hanoi.text_numbers.Tie as tie
 
 enum-known-written : tie.Need-enum-known-written
 enum-known-written c = search needs

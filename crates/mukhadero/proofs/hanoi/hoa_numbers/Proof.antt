@@ -27,7 +27,7 @@ returns c =
       start = hoa .start;
       edges = hoa .edges;
       count = c .acceptance-count .ensures i;
-      needs = hoa .needs
+      needs = hoa .needs;
     }
 
 pub hoa-numbers-spec : {M : Type 1} → statement M

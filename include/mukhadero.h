@@ -10,7 +10,8 @@
  *   pointer is then not followed and may be NULL. `needs` has no count: it always points to eight cells and is never NULL.
  * - A buffer that is written (room, scratch, outputs, the tables that a text is read into) overlaps no other buffer of the same call.
  *
- * Memory: nothing is allocated and nothing is kept between calls. A call takes less than 64 KB of stack, whatever the table.
+ * Memory: nothing is allocated and nothing is kept between calls. A call takes less than 64 KB of stack, whatever the table;
+ * mukhadero_read_hoa less than 96 KB, whatever the text.
  * Threads: calls may run at the same time. Tables and needs are only read and may be shared; room, scratch and outputs may not.
  * Platform: x86-64 Linux, the C calling convention there; of the C library only memset is used.
  *

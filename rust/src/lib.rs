@@ -7,8 +7,8 @@
 //! The judge itself is a proved library, linked as a C archive: a false "run" and a false "empty" are both ruled out by proof, for
 //! every input. This crate is not proved; it only turns slices into pointers and numbers into enums. It allocates only in
 //! [`Judge`], which keeps room and scratch for those who do not want to lend their own. Calls may run at the same time in several
-//! threads; a call takes less than 64 KB of stack. The archive is for x86-64 Linux. docs/RULES.md of the repository has the rules,
-//! complete.
+//! threads; a call takes less than 64 KB of stack, reading a text in the Hanoi format less than 96 KB. The archive is for x86-64
+//! Linux. docs/RULES.md of the repository has the rules, complete.
 //!
 //! # Example
 //!

@@ -4,8 +4,9 @@ use mathlib.Core.List.{List, [], _∷_}
 use Prim.Native.Nat.{ℕ}
 use Rattle.table.specs.declared.Acceptance.the-variants.{Rabin}
 use Rattle.table.specs.declared.Verdict.the-variants.{Run}
+use Rattle.digits.specs.Digit.{digit, hexDigit}
 use Rattle.job_text.specs.Text.{lines, fields, same}
-use Rattle.job_text.specs.Value.{digit, hexDigit, spelt, number, hexWord, edge, kind, listed, needs, end, padded}
+use Rattle.job_text.specs.Value.{spelt, number, hexWord, edge, kind, listed, needs, end, padded}
 use Rattle.job_text.specs.Job.{job, fault, readJob}
 use Rattle.job_text.specs.Printed.{decimalIn, furtherText, topText, bottomText, answerText}
 

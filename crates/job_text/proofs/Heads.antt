@@ -15,7 +15,8 @@ use Rattle.job_text.specs.declared.line.Step.{Step}
 use Rattle.job_text.specs.declared.line.Step.the-variants as step
 use Rattle.job_text.specs.declared.reader.Head.{Head as HeadRead}
 use Rattle.job_text.specs.Text.{Lines, lines}
-use Rattle.job_text.specs.Value.{number, kind, needs, mostNumber, mostCount, atMost, leadingZero, spelt, digit}
+use Rattle.digits.specs.Digit.{digit}
+use Rattle.job_text.specs.Value.{number, kind, needs, mostNumber, mostCount, atMost, leadingZero, spelt}
 use Rattle.job_text.specs.Job.{Keyed, missing, value, keyed, Line, says, fault, limited, formed, asked, above, unlimited, mostJobStates, mostJobEdges, states=, start=, count=, need=, edges=, Found, found, refused, Head, placed, kind=, kindIf, kindLine, countLines, headLines}
 use Rattle.job_text.specs.Given.{numberSays, stepSays}
 use Rattle.job_text.specs.Reading.{numberFault, stepFault, refusedHead, HeadAt}

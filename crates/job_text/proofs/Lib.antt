@@ -1,4 +1,3 @@
-pub mod Table
 pub mod Pad
 pub mod Text
 pub mod Values

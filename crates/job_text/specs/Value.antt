@@ -7,6 +7,7 @@ use Prim.Native.Nat.{ℕ, zero, suc, _+_, _-_, _*_}
 use lib.Dec.{leb, ltb, eqb}
 use lib.ListN.{length, getD, replicate}
 use Rattle.marks.specs.Mark.{width}
+use Rattle.digits.specs.Digit.{digit, hexDigit}
 use Rattle.table.specs.declared.Acceptance.{Acceptance}
 use Rattle.table.specs.declared.Acceptance.the-variants as acceptance
 use Rattle.table.specs.Refusal.{mostStreett, mostRabin}
@@ -23,17 +24,6 @@ andThen none f = none
 andThen (some a) f = f a
 
 -- ---- digits
-
-abbrev pub between : ℕ → ℕ → ℕ → Bool
-between low high b = leb low b && leb b high
-
--- `0` to `9`
-unfoldable pub digit : ℕ → Option ℕ
-digit b = cond (between 48 57 b) (some (b - 48)) none
-
--- `0` to `9` and `a` to `f`: "lower-case hex digits"
-unfoldable pub hexDigit : ℕ → Option ℕ
-hexDigit b = cond (between 48 57 b) (some (b - 48)) (cond (between 97 102 b) (some (b - 87)) none)
 
 -- the number that digits spell, the first the highest, where the digits before them spell n
 unfoldable pub spelt : (ℕ → Option ℕ) → ℕ → ℕ → List ℕ → Option ℕ

@@ -1,12 +1,16 @@
-// The values of the job text, each read from the part of a line that holds it. Relies on `part`.
+// The values of the job text, each read from the part of a line that holds it. Relies on `part` and on the crate `digits`.
 use crate::part::alike;
 use crate::part::find;
+use digits::Digit;
+use digits::digit_value;
+use digits::hex_value;
 ghost use mathlib.Core.Path.{_≡_};
 ghost use Prim.Native.Nat.{_≤_};
 ghost use mathlib.Core.Option.{none};
 ghost use Rattle.table.specs.Refusal.{mostRabin};
 ghost use Rattle.job_text.specs.Text.{fields};
-ghost use Rattle.job_text.specs.Value.{digit, hexDigit, spelt, atMost, mostNumber, leadingZero, number, hexWord, edge, kind, hasNeeds, listed, eight, needs, mostCount};
+ghost use Rattle.digits.specs.Digit.{digit};
+ghost use Rattle.job_text.specs.Value.{spelt, atMost, mostNumber, leadingZero, number, hexWord, edge, kind, hasNeeds, listed, eight, needs, mostCount};
 ghost use Rattle.job_text.specs.Given.{numberGiven, Commas2, CommasAt, edgeGiven, kindGiven, needsGiven};
 
 // The largest number of the job text.
@@ -49,95 +53,6 @@ pub(crate) struct NeedList {
     pub needs: [u32; 8],
 }
 
-// The value of a decimal digit.
-pub(crate) fn digit_value(byte: u8) -> Number
-    ensures { λ r. ⌜ numberGiven r ≡ digit byte ⌝ }
-{
-    if byte < b'0' {
-        return Number::Wrong;
-    }
-    if b'9' < byte {
-        return Number::Wrong;
-    }
-    Number::Value((byte - b'0') as u32)
-}
-
-// The values of the bytes from `0` to `f` as hex digits; 16 where the byte is none.
-const HEX: [u8; 55] = [
-    0,
-    1,
-    2,
-    3,
-    4,
-    5,
-    6,
-    7,
-    8,
-    9,
-    16,
-    16,
-    16,
-    16,
-    16,
-    16,
-    16,
-    16,
-    16,
-    16,
-    16,
-    16,
-    16,
-    16,
-    16,
-    16,
-    16,
-    16,
-    16,
-    16,
-    16,
-    16,
-    16,
-    16,
-    16,
-    16,
-    16,
-    16,
-    16,
-    16,
-    16,
-    16,
-    16,
-    16,
-    16,
-    16,
-    16,
-    16,
-    16,
-    10,
-    11,
-    12,
-    13,
-    14,
-    15,
-];
-
-// The value of a hex digit. Nothing else knows the table.
-pub(crate) fn hex_value(byte: u8) -> Number
-    ensures { λ r. ⌜ numberGiven r ≡ hexDigit byte ⌝ }
-{
-    if byte < b'0' {
-        return Number::Wrong;
-    }
-    if b'f' < byte {
-        return Number::Wrong;
-    }
-    let value = HEX[(byte - b'0') as usize];
-    if value == 16 {
-        return Number::Wrong;
-    }
-    Number::Value(value as u32)
-}
-
 // The number that decimal digits spell, if it is not too large.
 fn decimal(bytes: &[u8]) -> Number
     ensures { λ r. ⌜ numberGiven r ≡ atMost mostNumber (spelt digit 10 0 (now (bytes .entry))) ⌝ }
@@ -145,7 +60,7 @@ fn decimal(bytes: &[u8]) -> Number
     let mut value: u32 = 0;
     let mut i = 0;
     while i < bytes.len() {
-        let Number::Value(d) = digit_value(bytes[i]) else {
+        let Digit::Value(d) = digit_value(bytes[i]) else {
             return Number::Wrong;
         };
         value = value * 10 + d;
@@ -190,7 +105,7 @@ pub(crate) fn read_marks(bytes: &[u8]) -> Number
     let mut value: u32 = 0;
     let mut i = 0;
     while i < bytes.len() {
-        let Number::Value(d) = hex_value(bytes[i]) else {
+        let Digit::Value(d) = hex_value(bytes[i]) else {
             return Number::Wrong;
         };
         value = value * 16 + d;

@@ -1,9 +1,9 @@
--- `value::digit_value` meets its contract: the tests are those of the rule, a byte from `0` to `9`. Assumes nothing.
-use Rattle.job_text.specs.Value.{digit}
-use Rattle.job_text.proofs.Values.{within, under, over}
+-- `digit_value` meets its contract: the tests are those of the rule, a byte from `0` to `9`. Assumes nothing.
+use Rattle.digits.specs.Digit.{digit}
+use Rattle.digits.proofs.Digits.{within, under, over}
 use borrow.Author.Needs.{needs}
-use Rattle.job_text.proofs.value.digit_value.Statement.{statement}
-use Rattle.job_text.proofs.value.digit_value.Tie as tie
+use Rattle.digits.proofs.digit_value.Statement.{statement}
+use Rattle.digits.proofs.digit_value.Tie as tie
 
 returns : tie.Need-returns
 unfolding digit

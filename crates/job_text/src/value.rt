@@ -10,8 +10,8 @@ ghost use mathlib.Core.Option.{none};
 ghost use Rattle.table.specs.Refusal.{mostRabin};
 ghost use Rattle.job_text.specs.Text.{fields};
 ghost use Rattle.digits.specs.Digit.{digit};
-ghost use Rattle.job_text.specs.Value.{spelt, atMost, mostNumber, leadingZero, number, hexWord, edge, kind, hasNeeds, listed, eight, needs, mostCount};
-ghost use Rattle.job_text.specs.Given.{numberGiven, Commas2, CommasAt, edgeGiven, kindGiven, needsGiven};
+ghost use Rattle.job_text.specs.Value.{spelt, atMost, mostNumber, leadingZero, number, hexWord, edge, textForm, kind, usualKind, hasNeeds, listed, eight, needs, mostCount};
+ghost use Rattle.job_text.specs.Given.{numberGiven, Commas2, CommasAt, edgeGiven, formGiven, kindGiven, needsGiven};
 
 // The largest number of the job text.
 pub(crate) const MOST_NUMBER: u32 = 65535;
@@ -21,6 +21,17 @@ const COMMA: u8 = 44;
 // A number, or that the bytes are not of its form.
 pub(crate) enum Number {
     Value(u32),
+    Wrong,
+}
+
+// The form of a job text: it says which kind is meant where the kind line is left out.
+pub enum Form {
+    One,
+    Two,
+}
+
+pub(crate) enum FormWord {
+    Form(Form),
     Wrong,
 }
 
@@ -157,6 +168,26 @@ pub(crate) fn read_edge(bytes: &[u8]) -> EdgeValue
     match find_commas(bytes) {
         Commas::Two { first, second } => read_fields(bytes, first, second),
         Commas::Other => EdgeValue::Wrong,
+    }
+}
+
+// The form's number; a text of form 1 has no line for it.
+pub(crate) fn read_form(bytes: &[u8]) -> FormWord
+    ensures { λ r. ⌜ formGiven r ≡ textForm (now (bytes .entry)) ⌝ }
+{
+    if alike(bytes, b"2") {
+        return FormWord::Form(Form::Two);
+    }
+    FormWord::Wrong
+}
+
+// What a missing kind line means.
+pub(crate) fn usual_kind(form: Form) -> Kind
+    ensures { λ r. ⌜ r ≡ usualKind form ⌝ }
+{
+    match form {
+        Form::One => Kind::Buchi,
+        Form::Two => Kind::Streett,
     }
 }
 

@@ -1,4 +1,4 @@
--- `reader::read_head` meets its contract: the first lines' faults are the head's, and the rest is what `read_counts` finds. Assumes nothing.
+-- `reader::read_states` meets its contract: the lines' faults are the head's, and the rest is what `read_counts` finds. Assumes nothing.
 use mathlib.Core.Path.{_≡_, sym, ap, _∙_}
 use denote.Ref.{now}
 use lib.ListN.{drop}
@@ -9,8 +9,8 @@ use Rattle.job_text.specs.Given.{kindFound}
 use Rattle.job_text.proofs.Heads.{number-stops, number-goes, states-stop, start-stops, kind-stops, kind-goes, kind-next, head-stops}
 use native.Mathlib.Omega.{arith}
 use borrow.Author.Needs.{needs}
-use Rattle.job_text.proofs.reader.read_head.Statement.{statement}
-use Rattle.job_text.proofs.reader.read_head.Tie as tie
+use Rattle.job_text.proofs.reader.read_states.Statement.{statement}
+use Rattle.job_text.proofs.reader.read_states.Tie as tie
 
 slice-aggregate-number-line : tie.Need-slice-aggregate-number-line
 slice-aggregate-number-line c = search needs
@@ -106,8 +106,8 @@ returns-4 c =
     let text = now (c .before .before .before .before .before .before .before .before .before .before .before .before .before .before .before .before .args .text) in
     rw (kind-goes (lines text) _ _ (states-said (c .before .before .before .before .before .before .before .before .before .before)) _ _ (start-said (c .before .before .before .before .before)) _ _ _ (kind-said (c .before))) (c .read-counts .ensures)
 
-pub read-head-spec : {M : Type 1} → statement M
-read-head-spec =
+pub read-states-spec : {M : Type 1} → statement M
+read-states-spec =
     tie.close
     (tie.spec
     slice-aggregate-number-line

@@ -2,8 +2,8 @@
 // `job_text`, writes by `hoa_writer`, prints a refusal by `job_text`. What a text is turned into is in specs/Turned.antt.
 use hoa_writer::Written;
 use hoa_writer::write_hoa;
-use job_text::printer::Printed;
-use job_text::printer::print;
+use answer_text::Printed;
+use answer_text::print;
 use job_text::reader::read;
 use table::Acceptance;
 use table::Answer;

@@ -1,14 +1,12 @@
--- The rules' own examples (docs/RULES.md) of the job text and of the printed answer, computed from the definitions. Assumes nothing.
+-- The rules' own examples (docs/RULES.md) of the job text, computed from the definitions. Assumes nothing.
 use mathlib.Core.Path.{_≡_, refl}
 use mathlib.Core.List.{List, [], _∷_}
 use Prim.Native.Nat.{ℕ}
 use Rattle.table.specs.declared.Acceptance.the-variants.{Rabin}
-use Rattle.table.specs.declared.Verdict.the-variants.{Run}
 use Rattle.digits.specs.Digit.{digit, hexDigit}
 use Rattle.job_text.specs.Text.{lines, fields, same}
 use Rattle.job_text.specs.Value.{spelt, number, hexWord, edge, kind, listed, needs, end, padded}
 use Rattle.job_text.specs.Job.{job, fault, readJob}
-use Rattle.job_text.specs.Printed.{decimalIn, furtherText, topText, bottomText, answerText}
 
 -- "Whole input"
 whole : List ℕ
@@ -28,9 +26,3 @@ cut-off =
 cut-off-refused : readJob cut-off ≡ fault 21 6
 unfolding cut-off readJob lines fields same digit hexDigit spelt number hexWord edge kind listed needs end
 cut-off-refused = refl
-
--- "Whole output"
-whole-printed : answerText (Run 0 1 1) (Rabin 2) (0 ∷ [])
-    ≡ 118 ∷ 101 ∷ 114 ∷ 100 ∷ 105 ∷ 99 ∷ 116 ∷ 61 ∷ 114 ∷ 117 ∷ 110 ∷ 10 ∷ 99 ∷ 111 ∷ 100 ∷ 101 ∷ 61 ∷ 48 ∷ 10 ∷ 112 ∷ 108 ∷ 97 ∷ 99 ∷ 101 ∷ 61 ∷ 48 ∷ 10 ∷ 112 ∷ 97 ∷ 105 ∷ 114 ∷ 61 ∷ 49 ∷ 10 ∷ 112 ∷ 114 ∷ 101 ∷ 102 ∷ 105 ∷ 120 ∷ 61 ∷ 45 ∷ 10 ∷ 99 ∷ 121 ∷ 99 ∷ 108 ∷ 101 ∷ 61 ∷ 48 ∷ 10 ∷ []
-unfolding decimalIn furtherText topText bottomText answerText
-whole-printed = refl

@@ -6,7 +6,5 @@ pub mod Lines
 pub mod Heads
 pub mod Bodies
 pub mod Jobs
-pub mod Puts
-pub mod Room
 pub mod Promises
 pub mod Examples

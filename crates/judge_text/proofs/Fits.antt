@@ -18,8 +18,8 @@ use Rattle.table.proofs.Sound.{rabin-few}
 use Rattle.table.proofs.Door.{refused-row}
 use Rattle.marks.proofs.Cases.{below}
 use Rattle.job_text.specs.Job.{mostJobEdges}
-use Rattle.job_text.specs.Printed.{answerText, mostPrinted}
-use Rattle.job_text.proofs.Room.{enough}
+use Rattle.answer_text.specs.Printed.{answerText, mostPrinted}
+use Rattle.answer_text.proofs.Room.{enough}
 use Rattle.judging.specs.Answer.{Given, Named, ByCause}
 use Rattle.judge_text.specs.Replied.{lentRoom, refusedText}
 use Rattle.judge_text.proofs.Lent.{permitted}

@@ -3,8 +3,8 @@
 // `hoa`: specs/HoaReplied.antt.
 use hoa::HoaFinding;
 use hoa::read_hoa;
-use job_text::printer::Printed;
-use job_text::printer::print;
+use answer_text::Printed;
+use answer_text::print;
 use job_text::reader::read;
 use table::Acceptance;
 use table::Answer;
@@ -12,7 +12,7 @@ use table::Finding;
 use table::Verdict;
 ghost use Prim.Native.Nat.{_≤_};
 ghost use lib.ListN.{length};
-ghost use Rattle.job_text.specs.Printed.{answerText, mostPrinted};
+ghost use Rattle.answer_text.specs.Printed.{answerText, mostPrinted};
 ghost use Rattle.table.specs.Table.{lent};
 ghost use Rattle.job_text.specs.Job.{mostJobStates, mostJobEdges};
 ghost use Rattle.judge_text.specs.Replied.{refusedText, Holds, Replied};

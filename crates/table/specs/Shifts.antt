@@ -4,7 +4,7 @@
 use mathlib.Core.List.{List, [], _∷_}
 use Prim.Native.Nat.{ℕ}
 use Rattle.table.specs.declared.Acceptance.the-variants.{Buchi, Streett, Rabin}
-use Rattle.table.specs.Table.{Table, lent}
+use Rattle.table.specs.Table.{Table, lent, waiting}
 use Rattle.table.specs.Condition.{Accepted, Runs, Empty}
 
 -- ---- the tables
@@ -66,8 +66,8 @@ pub record ShiftCases : Type 0 where
   pub case-6 : Runs plainLoop (Streett 1) noNeeds
   -- "0>0{}, 0>1{0}, 1>0{}, Streett 1: run; cycle 0"
   pub case-7 : Accepted loopAndWayRound (Streett 1) noNeeds [] (0 ∷ [])
-  -- "Two states, no edges, Streett 0: empty"
-  pub case-8 : Empty noEdges (Streett 0) noNeeds
+  -- "Two states, no edges, Streett 0: run; prefix none, cycle the waiting edge"
+  pub case-8 : Accepted noEdges (Streett 0) noNeeds [] (waiting ∷ [])
   -- "0>0{}, Büchi 0: run"
   pub case-9 : Runs plainLoop (Buchi 0) noNeeds
   -- "0>0{}, Rabin 0: empty"

@@ -1,5 +1,6 @@
 -- Tables, walks and lassos (docs/RULES.md, "Tables, walks and lassos"). Assumes nothing.
 use mathlib.Core.Path.{_≡_}
+use mathlib.Core.Logic.{_⊎_}
 use mathlib.Core.List.{List, [], _∷_}
 use Prim.Native.Nat.{ℕ, _<_}
 use lib.ListN.{length, getD}
@@ -18,20 +19,35 @@ pub record Table : Type 0 where
 abbrev pub lent : ℕ → ℕ → List ℕ → List ℕ → List ℕ → Table
 lent n start from to marks = record { states = n; start = start; edges = length from; from = from; to = to; marks = marks }
 
--- edge e leads from s to s': everything about walks is said through this
-pub record Step (t : Table) (e s s' : ℕ) : Type 0 where
+-- the number of a waiting edge: no table is so long
+abbrev pub waiting : ℕ
+waiting = 65535
+
+-- edge e of the tables leads from s to s'
+pub record Edge (t : Table) (e s s' : ℕ) : Type 0 where
   pub listed : e < t .edges
   pub leaves : getD (t .from) e 0 ≡ s
   pub arrives : getD (t .to) e 0 ≡ s'
+
+-- a stop state: no edge of the tables leaves it
+pub record Stop (t : Table) (s : ℕ) : Type 0 where
+  pub state : s < t .states
+  pub halts : (e s' : ℕ) → Edge t e s s' → ⊥
+
+-- the waiting edge of a stop state leads from it to itself
+pub record Waits (t : Table) (e s s' : ℕ) : Type 0 where
+  pub number : e ≡ waiting
+  pub stop : Stop t s
+  pub stays : s' ≡ s
+
+-- edge e leads from s to s': everything about walks is said through this
+abbrev pub Step : Table → ℕ → ℕ → ℕ → Type 0
+Step t e s s' = Edge t e s s' ⊎ Waits t e s s'
 
 -- the edges es, each leaving where the one before arrived, lead from s to z
 abbrev pub Walk : Table → ℕ → List ℕ → ℕ → Type 0
 Walk t s [] z = s ≡ z
 Walk t s (e ∷ es) z = (s' : ℕ) × (Step t e s s' × Walk t s' es z)
-
--- a state without edges: none leaves it
-abbrev pub Dead : Table → ℕ → Type 0
-Dead t s = (e s' : ℕ) → Step t e s s' → ⊥
 
 -- a walk from the start, perhaps empty, and a non-empty walk from its end back to it
 pub record Lasso (t : Table) (prefix cycle : List ℕ) : Type 0 where
@@ -40,7 +56,7 @@ pub record Lasso (t : Table) (prefix cycle : List ℕ) : Type 0 where
   pub closes : Walk t knot cycle knot
   pub turns : 0 < length cycle
 
--- the marks that edge e bears
+-- the marks that edge e bears; a waiting edge, which stands in no table, bears none
 abbrev pub borne : Table → ℕ → ℕ
 borne t e = getD (t .marks) e 0
 

@@ -8,6 +8,7 @@ use puts::put_held;
 use puts::put_word;
 use table::Acceptance;
 use table::Finding;
+use writing::Written;
 ghost use mathlib.Core.Path.{_≡_};
 ghost use mathlib.Core.List.{[]};
 ghost use Rattle.table.specs.Table.{lent};
@@ -24,12 +25,6 @@ const MOST_EDGES: usize = 512;
 
 // An output of this many bytes is long enough for every text.
 pub const MOST_BYTES: usize = 11336;
-
-// What writing gives: the text's length, or the number and the place of the first cause to refuse.
-pub enum Written {
-    Text { length: usize },
-    Refused { number: u32, place: u32 },
-}
 
 // The lines before the edges.
 fn put_head(out: &mut [u8], n: u32, start: u32, m: u32) -> usize

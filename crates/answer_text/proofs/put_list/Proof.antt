@@ -1,7 +1,6 @@
--- `put_list` meets its contract: `-`, or the first number and then the others with their commas. Assumes nothing.
+-- `put_list` meets its contract: `-`, or the first edge and then the others with their commas. Assumes nothing.
 use denote.Ref.{now}
-use lib.ListN.{getD}
-use Rattle.puts.proofs.Puts.{put-both, step-few}
+use Rattle.puts.proofs.Puts.{put-both}
 use Rattle.answer_text.proofs.Prints.{list-none, list-some, rest-length}
 use native.Mathlib.Omega.{arith}
 use borrow.Author.Needs.{needs}
@@ -34,15 +33,16 @@ part-put-more-end c = search needs
 
 put-more-requires : tie.Need-put-more-requires
 put-more-requires c κs =
-    let start = c .before .before .before .before .before .before .before .before .before .before in
-    let cells = now (start .args .cells) in
-    omega (arith, c .before .before .before .before .put-step .ensures .next, start .pre, rest-length cells, step-few (getD cells 0 0) (omega (arith, c .before .before .before .before .before .shared-slice-known2 .given 0)), c .before .before .before .before .before .before .before .if1 .left)
+    let after-step = c .before .before .before .before in
+    let at-test = after-step .before .before .before in
+    let at-entry = at-test .before .before .before in
+    omega (arith, after-step .put-step .ensures .few, at-entry .pre, rest-length (now (at-entry .args .cells)), at-test .if1 .left)
 
 same-length-2 : tie.Need-same-length-2
 same-length-2 c = search needs
 
 returns-2 : tie.Need-returns-2
-returns-2 c = rw (list-some (now (c .before .before .before .before .before .before .before .before .before .before .before .before .before .args .cells)) (c .before .before .before .before .before .before .before .before .before .before .if1 .left)) (put-both (c .before .before .before .before .before .before .before .put-step .ensures) (c .before .before .put-more .ensures))
+returns-2 c = rw (list-some (now (c .before .before .before .before .before .before .before .before .before .before .before .before .before .args .cells)) (c .before .before .before .before .before .before .before .before .before .before .if1 .left)) (put-both (c .before .before .before .before .before .before .before .put-step .ensures .put) (c .before .before .put-more .ensures))
 
 pub put-list-spec : {M : Type 1} → statement M
 put-list-spec =

@@ -1,12 +1,12 @@
--- `put_more` meets its contract: after i turns the first i numbers are written, each with its comma (`further-more`), in at most eleven
+-- `put_more` meets its contract: after i turns the first i edges are written, each with its comma (`further-more`), in at most eleven
 -- bytes each. The measure is what is left of the cells. Assumes nothing.
 use mathlib.Core.Path.{_≡_, refl, _∙_}
-use Prim.Native.Nat.{_+_, _-_, _*_, _^_, _≤_, _<_, zero-le}
+use Prim.Native.Nat.{_+_, _-_, _*_, _≤_, zero-le}
 use denote.Ref.{now}
-use lib.ListN.{length, getD, take}
+use lib.ListN.{length, take}
 use Rattle.answer_text.specs.Printed.{furtherText}
 use Rattle.puts.specs.Put.{Put}
-use Rattle.puts.proofs.Puts.{put-both, step-few}
+use Rattle.puts.proofs.Puts.{put-both}
 use Rattle.answer_text.proofs.Prints.{further-none, further-more, further-whole}
 use borrow.Author.Needs.{needs}
 use native.Mathlib.Omega.{arith}
@@ -43,15 +43,15 @@ loop-less c = search needs
 
 loop-again : tie.Need-loop-again Inv-loop μ-loop
 loop-again c =
-    let a = c .before .before .before .before .before .before .before .before .before .before .before .before .before .args in
-    let l = c .before .before .before .before .before .before .before .before .before .before .loop in
-    let p = c .before .before .before .before .before .before .put in
-    let n = c .before .before .put-step in
-    let small : getD (now (a .cells)) (l .i) 0 < 2 ^ 32 = omega (arith, c .before .before .before .before .before .before .before .before .shared-slice-known2 .given (l .i)) in (
+    let after-put = c .before .before .before .before .before .before in
+    let at-loop = after-put .before .before .before .before in
+    let l = at-loop .loop in
+    let p = after-put .put in
+    let n = c .before .before .put-step in (
       omega arith,
       n .kept .0 ∙ p .kept .0 ∙ l .inv .1,
-      further-more (now (a .cells)) (l .i) (omega arith) (l .inv .2) (put-both (p .ensures) (n .ensures)),
-      omega (arith, n .ensures .next, p .ensures .next, l .inv .3, step-few (getD (now (a .cells)) (l .i) 0) small),
+      further-more (now (at-loop .before .before .before .args .cells)) (l .i) (omega arith) (l .inv .2) (put-both (p .ensures) (n .ensures .put)),
+      omega (arith, n .ensures .few, p .ensures .next, l .inv .3),
     )
 
 same-length : tie.Need-same-length Inv-loop μ-loop

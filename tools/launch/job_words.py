@@ -25,9 +25,19 @@ class Job:
     def __init__(self, text):
         self.text = text
         *self.lines, self.rest = text.split(b"\n")  # rest: what stands behind the last newline
-        self.has_kind = len(self.lines) > 2 and self.lines[2].startswith(b"kind=")
-        self.keys = ["states", "start"] + ["kind"] * self.has_kind + ["count", "need", "edges"]
+        self.has_form = self.begins(1, b"form=")
+        self.kind_place = 3 + self.has_form
+        self.has_kind = self.begins(self.kind_place, b"kind=")
+        self.keys = ["form"] * self.has_form + ["states", "start"] + ["kind"] * self.has_kind + ["count", "need", "edges"]
         self.first_edge = len(self.keys) + 1
+
+    def begins(self, number, key):
+        """Whether the line is there and has this key."""
+        return number <= len(self.lines) and self.lines[number - 1].startswith(key)
+
+    def place(self, key):
+        """The number of the first line with this key."""
+        return self.keys.index(key) + 1
 
     def line(self, number):
         """The line, without its newline."""
@@ -35,13 +45,13 @@ class Job:
 
     def value(self, key):
         """The value in the first line with this key."""
-        return self.line(self.keys.index(key) + 1).partition(b"=")[2]
+        return self.line(self.place(key)).partition(b"=")[2]
 
     def number(self, key):
         return int(self.value(key))
 
     def kind(self):
-        return self.value("kind").decode() if self.has_kind else "buchi"
+        return self.value("kind").decode() if self.has_kind else "streett" if self.has_form else "buchi"
 
     def expected(self, number):
         """The key that the line must have: None behind the end."""
@@ -68,12 +78,12 @@ def refused(job, code, place):
 
 
 def bad_condition(job):
-    return f"line {job.keys.index('need') + 1}: too many marks: each pair takes one forbidden mark and its needed ones, 32 in all at most"
+    return f"line {job.place('need')}: too many marks: each pair takes one forbidden mark and its needed ones, 32 in all at most"
 
 
 WHOLE = {
-    1: lambda job: "line 1: there are no states, a table has at least one",
-    3: lambda job: f"line 2: the start is no state: the states are {states(job)}",
+    1: lambda job: f"line {job.place('states')}: there are no states, a table has at least one",
+    3: lambda job: f"line {job.place('start')}: the start is no state: the states are {states(job)}",
     4: bad_condition,
     20: lambda job: "the job text is longer than 12,288 bytes",
 }
@@ -121,7 +131,7 @@ def wrong_key(job, place):
     key, equals, _ = line.partition(b"=")
     if expected is None:
         return "a line follows the end: " + ("it is blank" if not line.strip() else f"it holds {shown(line)}")
-    wanted = "`kind=` or `count=`" if place == 3 and not job.has_kind else f"`{expected}=`"
+    wanted = "`kind=` or `count=`" if place == job.kind_place and not job.has_kind else f"`{expected}=`"
     if place > len(job.lines):
         if not job.text:
             return "the line is missing: the text is empty"
@@ -142,6 +152,8 @@ def key_hint(job, place, line, key, equals, expected):
         return "it begins with a blank"
     if line.startswith(b"#"):
         return "there are no comments in a job"
+    if key == b"form" and equals:
+        return "the form's line stands once, before all others"
     if key.strip().lower() == expected.encode() and equals:
         return f"it must begin `{expected}=`, in lower case and without blanks"
     if expected == "edge" and key == b"end":
@@ -208,6 +220,8 @@ def value_hint(job, key, value):
         return "there is a blank in it"
     if key == "end":
         return "the last line is `end=job`"
+    if key == "form":
+        return "the line is `form=2`, or it is left out"
     hint = {"kind": kind_hint, "need": need_hint, "edge": edge_hint}.get(key, lambda job, value: number_hint(value))(job, value)
     return hint or shown(value)
 

@@ -50,4 +50,9 @@ impl Case {
     pub fn edges(&self) -> usize {
         self.from.len()
     }
+
+    /// The stop states, in order: those that no edge leaves.
+    pub fn stop_states(&self) -> Vec<u32> {
+        (0..self.states).filter(|s| self.from.binary_search(s).is_err()).collect()
+    }
 }

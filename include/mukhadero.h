@@ -1,5 +1,5 @@
 /*
- * mukhadero: does a table hold an accepted lasso? docs/RULES.md of the repository has the rules, complete.
+ * mukhadero: does a table hold an accepted lasso? docs/RULES.md has the rules, complete.
  *
  * A table has states 0..n-1, a start state and edges 0..m-1; edge e leads from from[e] to to[e] and bears the marks whose bits are
  * set in marks[e]. A state that no edge leaves is a stop state: it has one waiting edge, MUKHADERO_STOP, which leads to the state
@@ -17,8 +17,8 @@
  * Threads: calls may run at the same time. Tables and needs are only read and may be shared; room, scratch and outputs may not.
  * Platform: x86-64 Linux, the C calling convention there; of the C library only memset is used.
  *
- * Link with target/staticlib/libmukhadero.a, made by `rt staticlib mukhadero`. mukhadero.pc, in the root of the repository, is for
- * pkg-config.
+ * Link with target/staticlib/libmukhadero.a: a release has it, and in the sources `rt staticlib mukhadero` makes it. mukhadero.pc, in
+ * the root of both, is for pkg-config.
  */
 #ifndef MUKHADERO_H
 #define MUKHADERO_H

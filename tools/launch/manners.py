@@ -1,8 +1,8 @@
 """The manners that the launchers share; not a command by itself.
 
-A launcher takes a file name or standard input, `--help`, `--version` and `--quiet`. It builds its program where sources changed, hands it the input, writes the
-program's lines to standard output and nothing else, says on standard error in one sentence what they mean, and ends with an exit status. Whatever goes wrong on
-the way (input, building, output) is told on standard error and ends with NO_ANSWER: it never looks like an empty text or like a good answer.
+A launcher takes a file name or standard input, `--help`, `--version` and `--quiet`. It builds its program where sources changed (a release has none), hands it
+the input, writes the program's lines to standard output and nothing else, says on standard error in one sentence what they mean, and ends with an exit status.
+Whatever goes wrong on the way (input, building, output) is told on standard error and ends with NO_ANSWER: it never looks like an empty text or like a good answer.
 """
 
 import fcntl
@@ -21,8 +21,10 @@ SAID = 40  # tools/launch/run takes a status from here on for what was said, and
 INPUT = 9  # standard input, as tools/launch/run hands it on
 
 ROOT = Path(__file__).resolve().parent.parent.parent
+RELEASED = (ROOT / "PROOF.txt").exists()  # a release has its programs with it and no sources: nothing is built
 PATIENCE = 2  # seconds after which it is said that a build goes on
-
+BUILDS = "The first call proves and builds the program, which takes some minutes; so does the first call after a change of its sources.\n"
+NAMES = "A file whose name begins with - is given as ./-NAME.\n"
 
 FIRST = 12_288  # the bytes of an input by which its form is told
 
@@ -163,7 +165,7 @@ def write_note(program, sources):
 
 def built_program(program, say):
     """The program, built anew (`rt check`) unless it was built from the sources as they are. Rt itself goes by what the files hold: it proves nothing twice."""
-    if is_fresh(program, state_of_sources(program)):
+    if RELEASED or is_fresh(program, state_of_sources(program)):
         return paths(program)[0]
     with open(ROOT / "crates.txt") as lock:  # one build at a time, whoever starts it
         try:
@@ -210,11 +212,6 @@ def run(path, text):
 # ---- a launcher --------------------------------------------------------------------------------------------------------------------
 
 
-def version():
-    header = (ROOT / "include" / "mukhadero.h").read_text()
-    return "mukhadero " + re.search(r'^#define MUKHADERO_VERSION_STRING\s+"([^"]*)"', header, re.M)[1]
-
-
 def parsed(words, use):
     """What the command line asks for: a text to print and nothing else, whether to be quiet, and the file."""
     quiet, files = False, []
@@ -222,7 +219,7 @@ def parsed(words, use):
         if word == "--help":
             return use, quiet, None
         if word == "--version":
-            return version() + "\n", quiet, None
+            return f"mukhadero {(ROOT / 'VERSION').read_text()}", quiet, None
         if word == "--quiet":
             quiet = True
         elif word.startswith("-"):
@@ -260,10 +257,10 @@ def answer_to(words, name, use, awaited, form_of):
 
 
 def main(name, use, awaited, form_of):
-    """A launcher. `name`: its own; `awaited`: what it reads, in words; `form_of` takes the first bytes of the input, and gives its form."""
+    """A launcher. `name`: its own; `use`: what --help says of it alone; `awaited`: what it reads, in words; `form_of` takes the first bytes of the input, and gives its form."""
     signal.signal(signal.SIGINT, signal.SIG_DFL)
     try:
-        status = answer_to(sys.argv[1:], name, use, awaited, form_of)
+        status = answer_to(sys.argv[1:], name, use + ("" if RELEASED else BUILDS) + NAMES, awaited, form_of)
     except (NoAnswer, OSError) as why:
         tell(name, f"no answer: {why}")
         status = NO_ANSWER

@@ -5,7 +5,8 @@ import re
 from manners import EMPTY, REFUSED, RUN
 
 STATUS = {b"empty": EMPTY, b"run": RUN, b"refused": REFUSED}
-NUMBERS = rb"(-|\d+(?:,\d+)*)"
+STOP = 65_535  # the edge on which a run waits for ever in a state without edges; printed `stop`
+NUMBERS = rb"(-|(?:\d+|stop)(?:,(?:\d+|stop))*)"
 ANSWER = re.compile(rb"verdict=(run|empty|refused)\ncode=(\d+)\nplace=(\d+)\npair=(-|\d+)\nprefix=" + NUMBERS + rb"\ncycle=" + NUMBERS + rb"\n")
 
 
@@ -37,7 +38,12 @@ def told(words, *about):
 
 
 def numbers_of(listed):
-    return [] if listed == b"-" else [int(number) for number in listed.split(b",")]
+    return [] if listed == b"-" else [STOP if number == b"stop" else int(number) for number in listed.split(b",")]
+
+
+def fields_of(output):
+    """The values of a printed answer by their keys."""
+    return dict(line.split(b"=", 1) for line in output.splitlines())
 
 
 def counted(numbers):

@@ -186,8 +186,8 @@ def dot_text(table, answer, names):
     drawn = drawn_of(table, numbers_of(answer[b"prefix"]), numbers_of(answer[b"cycle"]))
     lines = [
         f"  graph [{DOWN if drawn.down else ACROSS}, label=<{title(table, answer, drawn)}>]\n",
-        '  start [shape=plaintext, label="start", margin=0.05]\n',
-        f"  start -> {table['start']} [id=start, weight=4]\n",
+        '  start [id="start", shape=plaintext, label="start", margin=0.05]\n',
+        f"  start -> {table['start']} [id=\"begin\", weight=4]\n",
     ]
     lines += [state_line(state, names.get(state, ""), drawn) for state in drawn.states]
     lines += [edge_line(arrow, arrow.leaves in drawn.grey) for arrow in drawn.arrows]

@@ -45,7 +45,7 @@ def where(text, prefix, cycle):
         places = hoa_reader.read_tokens(hoa_reader.tokens(text)).edge_places()
     except hoa_reader.Refused:
         return ""
-    listed = [numbers for numbers in map(answers.numbers_of, (prefix, cycle)) if numbers]
+    listed = [numbers for numbers in map(answers.edges_of, (prefix, cycle)) if numbers]
     parts = [lines_of(text, places, numbers) for numbers in listed]
     one = sum(map(len, listed)) == 1
     return f" (line{'' if one else 's'} {'; then '.join(parts)} of the text)" if listed else ""

@@ -20,7 +20,7 @@ def read_answer(text, output):
 
 
 def where(job, prefix, cycle):
-    some = answers.numbers_of(prefix) + answers.numbers_of(cycle)
+    some = answers.edges_of(prefix) + answers.edges_of(cycle)
     return f" (edge 0 is line {job.first_edge} of the job)" if some else ""
 
 
@@ -65,10 +65,18 @@ class Job:
         edge = number - self.first_edge
         return "edge" if edge < self.number("edges") else "end" if edge == self.number("edges") else None
 
+    def needs(self):
+        return [] if self.value("need") == b"-" else [int(need) for need in self.value("need").split(b",")]
+
     def edge(self, edge):
         """From, to and marks of an edge."""
         start, end, marks = self.line(self.first_edge + edge).partition(b"=")[2].split(b",")
         return int(start), int(end), int(marks, 16)
+
+    def table(self):
+        """The table of a job that is in order all through, under the keys that tools/hoa_reader.py has."""
+        numbers = {key: self.number(key) for key in ("states", "start", "count")}
+        return numbers | {"kind": self.kind(), "needs": self.needs(), "edges": [self.edge(edge) for edge in range(self.number("edges"))]}
 
 
 def refused(job, code, place):
@@ -113,8 +121,7 @@ def unsorted(job, place):
 
 def used_marks(job):
     if job.kind() == "rabin":
-        needs = [] if job.value("need") == b"-" else job.value("need").split(b",")
-        return sum(1 + int(need) for need in needs)
+        return sum(1 + need for need in job.needs())
     return job.number("count") * (2 if job.kind() == "streett" else 1)
 
 

@@ -16,7 +16,7 @@ from collections import namedtuple
 from pathlib import Path
 
 EMPTY, RUN, REFUSED, NO_ANSWER = 0, 1, 2, 3
-WRITTEN = 0  # of a program that writes a text
+WRITTEN = DRAWN = 0  # of a launcher that writes a text, or draws
 SAID = 40  # tools/launch/run takes a status from here on for what was said, and all others for an accident
 INPUT = 9  # standard input, as tools/launch/run hands it on
 
@@ -29,8 +29,8 @@ NAMES = "A file whose name begins with - is given as ./-NAME.\n"
 FIRST = 12_288  # the bytes of an input by which its form is told
 
 # A form of input. `program`: the crate that takes it; `longest`: the most bytes that the program takes; `read_answer` takes the input and what the program wrote, and
-# gives the status and the sentence, or None if what was written is no answer.
-Form = namedtuple("Form", "program longest read_answer")
+# gives the status and the sentence, or None if what was written is no answer; `made` takes the same two, and gives what goes to standard output.
+Form = namedtuple("Form", "program longest read_answer made", defaults=[lambda text, output: output])
 
 
 class NoAnswer(Exception):
@@ -212,29 +212,38 @@ def run(path, text):
 # ---- a launcher --------------------------------------------------------------------------------------------------------------------
 
 
-def parsed(words, use):
-    """What the command line asks for: a text to print and nothing else, whether to be quiet, and the file."""
-    quiet, files = False, []
+def parsed(words, use, own):
+    """What the command line asks for: a text to print and nothing else, whether to be quiet, the file, and the launcher's own options with their values."""
+    quiet, files, options, words = False, [], {}, iter(words)
     for word in words:
         if word == "--help":
-            return use, quiet, None
+            return use, quiet, None, options
         if word == "--version":
-            return f"mukhadero {(ROOT / 'VERSION').read_text()}", quiet, None
+            return f"mukhadero {(ROOT / 'VERSION').read_text()}", quiet, None, options
         if word == "--quiet":
             quiet = True
+        elif word in own:
+            options[word.strip("-")] = value_of(word, words, use) if own[word] else True
         elif word.startswith("-"):
             raise NoAnswer(f"{word} is no option\n{use.rstrip()}")
         else:
             files.append(word)
     if len(files) > 1:
         raise NoAnswer(f"one file at a time, not {len(files)}\n{use.rstrip()}")
-    return None, quiet, files[0] if files else None
+    return None, quiet, files[0] if files else None, options
 
 
-def answer_to(words, name, use, awaited, form_of):
+def value_of(option, words, use):
+    """The word behind an option."""
+    for word in words:
+        return word
+    raise NoAnswer(f"{option} takes a word behind it\n{use.rstrip()}")
+
+
+def answer_to(words, name, use, awaited, form_of, own):
     """The launcher's work, and its status."""
     output_open = settle_descriptors()
-    print_only, quiet, file = parsed(words, use)
+    print_only, quiet, file, options = parsed(words, use, own)
     if not output_open:
         raise NoAnswer("standard output is closed, there is no place for an answer")
     if print_only is not None:
@@ -245,22 +254,23 @@ def answer_to(words, name, use, awaited, form_of):
         raise NoAnswer("standard input is closed, there is nothing to read")
     if file is None and os.isatty(INPUT):
         say(f"waiting for {awaited} on standard input; Ctrl-D on a line of its own ends it")
-    text, form = read_input(file, form_of)
+    text, form = read_input(file, lambda first: form_of(first, **options))
     output = run(built_program(form.program, say), text)
     answer = form.read_answer(text, output)
     if answer is None:
         raise NoAnswer("what the program wrote is no answer")
-    write_output(output)
+    write_output(form.made(text, output))
     status, sentence = answer
     say(sentence)
     return status
 
 
-def main(name, use, awaited, form_of):
-    """A launcher. `name`: its own; `use`: what --help says of it alone; `awaited`: what it reads, in words; `form_of` takes the first bytes of the input, and gives its form."""
+def main(name, use, awaited, form_of, own={}):
+    """A launcher. `name`: its own; `use`: what --help says of it alone; `awaited`: what it reads, in words; `form_of` takes the first bytes of the input and the options of `own`
+    that are given, and gives its form; `own`: the launcher's own options, each with whether a word follows it."""
     signal.signal(signal.SIGINT, signal.SIG_DFL)
     try:
-        status = answer_to(sys.argv[1:], name, use + ("" if RELEASED else BUILDS) + NAMES, awaited, form_of)
+        status = answer_to(sys.argv[1:], name, use + ("" if RELEASED else BUILDS) + NAMES, awaited, form_of, own)
     except (NoAnswer, OSError) as why:
         tell(name, f"no answer: {why}")
         status = NO_ANSWER

@@ -36,7 +36,7 @@ front-up s (x ∷ xs) =
     (λ l. omega (arith, front-more s x xs l, front-more (suc s) x xs (omega arith), front-up s xs))
     (λ l. omega (arith, front-none s x xs l))
 
-front-zero : (xs : List ℕ) → front 0 xs ≡ 0
+pub front-zero : (xs : List ℕ) → front 0 xs ≡ 0
 front-zero [] = refl
 front-zero (x ∷ xs) = front-none 0 x xs (omega arith)
 
@@ -161,3 +161,7 @@ module _ (t : Table) (k : ℕ) (f : ℕ → ℕ → ℕ) where
       let at-level = each-at (levelCells t f s) (λ h. h * w) (λ h. omega (arith, level-length s h)) 0 (levels k) j i (j * w + i)
       (omega arith) (omega arith) (omega (arith, level-length s j)) (omega arith) in
       at-state ∙ at-level ∙ cells-at (f j) (rowStart t s) w i li
+
+-- the lifted lists have m·K cells
+pub whole-length : (t : Table) → Proper t → (k : ℕ) (f : ℕ → ℕ → ℕ) → length (inOrder t k f) ≡ t .edges * levels k
+whole-length t proper k f = order-length t k f (t .states) ∙ rw (rows-end t proper)

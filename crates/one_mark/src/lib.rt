@@ -1,12 +1,14 @@
 // The one-mark translation (docs/RULES.md, "One-mark translation"): a table with k marks, read as Büchi k, becomes one with one mark, read as
 // Büchi 1, whose accepted lassos lie over those of the first. Relies on `table` for rows 1 to 7 and for the rows of a table.
 mod lift;
+mod stops;
 
 use lift::Shape;
 use lift::level_count;
 use lift::lift_table;
 use lift::number_of;
 use marks::Marks;
+use stops::source_count;
 use table::Acceptance;
 use table::Finding;
 use table::MOST_EDGES;
@@ -81,7 +83,7 @@ fn foresee(
     }
     let levels = level_count(k);
     let states = n * levels;
-    let edges = from.len() * (levels as usize);
+    let edges = source_count(n, from, k) * (levels as usize);
     if too_large(states, edges) {
         return refused(10);
     }

@@ -18,15 +18,31 @@ use Rattle.table.proofs.Door.{CauseAt, refused-row}
 use Rattle.table.proofs.Sound.{Fit, sound-fit, used-few, either-false}
 use Rattle.one_mark.specs.declared.Translation.{Translation}
 use Rattle.one_mark.specs.declared.Translation.the-variants.{Made, Refused}
-use Rattle.one_mark.specs.Climb.{levels}
+use Rattle.one_mark.specs.Climb.{levels, number}
 use Rattle.one_mark.specs.Source.{source}
 use Rattle.one_mark.specs.Translated.{translated}
 use Rattle.one_mark.specs.Outcome.{large, short, answer, numberOf, placeOf}
 use Rattle.one_mark.specs.Writing.{Ladder, Rising}
-use Rattle.one_mark.proofs.Looped.{source-most}
+use Rattle.one_mark.proofs.Looped.{source-states, source-start, source-edges, source-most}
 
 pub not-large : (states edges : ℕ) → large states edges ≡ false → states ≤ mostStates
 not-large states edges e = ltb-false mostStates states (either-false (ltb mostStates states) (ltb mostEdges edges) e .0)
+
+-- ---- the counts of the translated table, from K and the number of edges of the table that is lifted
+
+pub record Counts (n start k K m : ℕ) (from to marks : List ℕ) : Type 0 where
+  pub states : translated (lent n start from to marks) k .states ≡ n * K
+  pub edges : translated (lent n start from to marks) k .edges ≡ m * K
+  pub first : translated (lent n start from to marks) k .start ≡ number k start 0
+
+pub counts : (n start k K m : ℕ) (from to marks : List ℕ) → K ≡ levels k → m ≡ source (lent n 0 from [] []) k .edges → Counts n start k K m from to marks
+counts n start k K m from to marks all e =
+    let t = lent n start from to marks in
+    record {
+      states = rw (source-states t k, all);
+      edges = rw (e, all, source-edges n start 0 from to marks [] [] k);
+      first = rw (source-start t k);
+    }
 
 -- ---- the counts of a sound table
 

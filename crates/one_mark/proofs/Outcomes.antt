@@ -2,12 +2,12 @@
 use mathlib.Core.Path.{_≡_, refl, sym, ap, _∙_}
 use mathlib.Core.List.{List, _++_}
 use Prim.Native.Nat.{ℕ, zero, suc, _-_, _*_, _≤_}
-use native.Mathlib.Nat.{zero-add}
+use native.Mathlib.Nat.{zero-add, mul-le-mul-left}
 use native.Mathlib.Omega.{arith}
 use lib.ListN.{length, replicate, length-append, length-replicate}
 use lib.Seq.{sets, length-sets}
 use Rattle.table.specs.Table.{Table, lent}
-use Rattle.table.specs.Refusal.{mostStates, Proper}
+use Rattle.table.specs.Refusal.{mostStates, mostEdges, Proper}
 use Rattle.one_mark.specs.declared.Translation.{Translation}
 use Rattle.one_mark.specs.declared.Translation.the-variants.{Made, Refused}
 use Rattle.one_mark.specs.Climb.{levels}
@@ -42,6 +42,10 @@ module _ (t : Table) (proper : Proper t) (k : ℕ) where
         to-filled = cleared a a' a'' (lifted t k .to) edges (written .to-cells) (whole-length t proper k (liftedTo t k) ∙ sym e) (omega (arith, room .for-to)) q;
         marks-filled = cleared b b' b'' (lifted t k .marks) edges (written .marks-cells) (whole-length t proper k (liftedMarks t k) ∙ sym e) (omega (arith, room .for-marks)) r;
       }
+
+-- there are no more edges than lifted ones
+pub fewer : (k m : ℕ) {edges : ℕ} → edges ≡ m * levels k → edges ≤ mostEdges → m ≤ mostEdges
+fewer k m e few = let more : m * 1 ≤ m * levels k = mul-le-mul-left m (omega arith) in omega arith
 
 -- the lent table's n rows are those of the table that is lifted
 pub all-states : {l a b l' a' b' : List ℕ} (t : Table) (k : ℕ) → StatesWritten (source t k) k (t .states) l a b l' a' b'

@@ -27,7 +27,7 @@ abbrev μ-loop : tie.MeasureT-loop
 μ-loop shape from to marks leaves₀ arrives₀ bears₀ states state₀ first₀ place₀ leaves arrives bears state first place = states - state
 
 -- the table that is lent
-abbrev table : tie.Start → Table
+abbrev table : tie.Start Inv-loop μ-loop → Table
 table entry = let a = entry .args in lent (a .shape .states) 0 (a .from .now) (a .to .now) (a .marks .now)
 
 -- the row that was found in it

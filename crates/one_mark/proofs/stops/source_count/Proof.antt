@@ -17,7 +17,7 @@ stop-count-requires c κs = search needs
 add-result : tie.Need-add-result
 add-result c =
     let entry = c .before .before .before in
-    omega (arith, c .stop-count .ensures, stops-most (entry .args .from .now) (entry .args .n), c .before .before .shared-slice-known .given)
+    omega (arith, c .stop-count .ensures, stops-most (entry .args .from .now) (entry .args .n))
 
 returns-2 : tie.Need-returns-2
 returns-2 c =

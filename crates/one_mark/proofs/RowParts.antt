@@ -118,8 +118,11 @@ module _ {u : Table} {s : ℕ} {to marks : List ℕ} (row : RowOf u s to marks) 
       (omega (arith, order-length u k (liftedMarks u k) s))
 
 -- before the first row nothing is written
-pub none-written : {l b c : List ℕ} (u : Table) (k K : ℕ) → (0 ≡ rowStart u 0 * K) × StatesWritten u k 0 l b c l b c
-none-written u k K = (rw (front-zero (u .from)) (omega arith), record { from-cells = refl; to-cells = refl; marks-cells = refl })
+pub first-place : (u : Table) (K : ℕ) → 0 ≡ rowStart u 0 * K
+first-place u K = rw (front-zero (u .from)) (omega arith)
+
+pub none-written : {l b c : List ℕ} (u : Table) (k : ℕ) → StatesWritten u k 0 l b c l b c
+none-written u k = record { from-cells = refl; to-cells = refl; marks-cells = refl }
 
 -- ---- in the table t the row of s begins at edge a and is w edges long
 

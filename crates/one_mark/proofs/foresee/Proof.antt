@@ -131,7 +131,7 @@ number-of-requires c κs =
     let a = entry .args in
     let s = sound (tested .before .before) in
     let told = tested .before .before .level-count in
-    let few = not-large _ _ (sym (large-told tested) ∙ c .before .before .if1 .left) in (
+    let few = not-large (translated (table entry) (a .k) .states) (translated (table entry) (a .k) .edges) (sym (large-told tested) ∙ c .before .before .if1 .left) in (
       ladder (a .n) (a .start) (a .k) (a .from .now) (a .to .now) (a .marks .now) s (told .result) (told .ensures)
           (rw (← told .ensures, ← made (tested .before) .states) few),
       (start-below (a .n) (a .start) (a .k) (a .from .now) (a .to .now) (a .marks .now) s, omega arith),

@@ -10,7 +10,7 @@ use Rattle.one_mark.specs.Place.{rowStart}
 use Rattle.one_mark.specs.Source.{source}
 use Rattle.one_mark.specs.Writing.{StatesWritten}
 use Rattle.one_mark.proofs.Looped.{source-length}
-use Rattle.one_mark.proofs.RowParts.{RowAt, row-ends, next, row-asked, source-row, row-room, row-placed, row-behind, none-written}
+use Rattle.one_mark.proofs.RowParts.{RowAt, row-ends, next, row-asked, source-row, row-room, row-placed, row-behind, first-place, none-written}
 use Rattle.one_mark.proofs.Wrote.{Kept, wrote-kept}
 use Rattle.one_mark.proofs.lift.lift_table.Statement.{statement}
 use Rattle.one_mark.proofs.lift.lift_table.Tie as tie
@@ -41,9 +41,8 @@ row-at c =
 loop-holds : tie.Need-loop-holds Inv-loop μ-loop
 loop-holds c =
     let a = c .before .before .before .before .before .before .args in
-    let t = lent (a .shape .states) 0 (a .from .now) (a .to .now) (a .marks .now) in
-    let start = none-written (source t (a .shape .k)) (a .shape .k) (a .shape .levels) in
-    (search needs, first-begins (a .from .now), start .0, start .1, search needs)
+    let u = source (lent (a .shape .states) 0 (a .from .now) (a .to .now) (a .marks .now)) (a .shape .k) in
+    (search needs, first-begins (a .from .now), first-place u (a .shape .levels), none-written u (a .shape .k), search needs)
 
 mul-run : tie.Need-mul-run Inv-loop μ-loop
 mul-run c = search needs

@@ -11,11 +11,11 @@ use lib.Dec.{eqb}
 use lib.ListN.{length, getD, replicate, length-append, length-replicate, List·getD-append}
 use borrow.Author.Tests.{eq-eqb, ne-eqb}
 use Rattle.marks.proofs.Cases.{same, below}
-use Rattle.table.specs.Table.{Table, waiting, Edge, Stop, Waits, Step, borne}
-use Rattle.table.specs.Refusal.{mostEdges, Proper}
+use Rattle.table.specs.Table.{Table, lent, waiting, Edge, Stop, Waits, Step, borne}
+use Rattle.table.specs.Refusal.{mostStates, mostEdges, Proper}
 use Rattle.table.proofs.Rows.{Sorted, Begins}
 use Rattle.one_mark.specs.Place.{front, rowStart, rowLength, cells, each, leaves, arrives}
-use Rattle.one_mark.specs.Source.{halts, stops, rowOr, looped, unlooped}
+use Rattle.one_mark.specs.Source.{halts, stops, rowOr, looped, source, unlooped}
 use Rattle.one_mark.proofs.Lists.{length-cells, cells-at, each-length, each-at}
 use Rattle.one_mark.proofs.Order.{front-zero, front-up, begins-front, table-row, rows-end}
 
@@ -51,6 +51,10 @@ module _ (t : Table) (proper : Proper t) where
 
   pub stop-empty : (s : ℕ) → s < t .states → Stop t s ↔ (rowLength t s ≡ 0)
   stop-empty s l = (stop-none s, none-stop s l)
+
+pub stops-most : (from : List ℕ) (n : ℕ) → stops from n ≤ n
+stops-most from zero = omega arith
+stops-most from (suc n) = omega (arith, stops-most from n)
 
 -- ---- where the rows begin with a loop at each stop state
 
@@ -93,8 +97,12 @@ module _ (t : Table) where
 
     row-long : (s : ℕ) → length (row s) ≡ rowLength t s + halts (t .from) s
     row-long s =
-        omega (arith, length-append (cells f (rowStart t s) (rowLength t s)) (replicate (halts (t .from) s) (x s)), length-cells f (rowStart t s) (rowLength t s),
-        length-replicate {A = ℕ} (halts (t .from) s) (x s))
+        omega (
+          arith,
+          length-append (cells f (rowStart t s) (rowLength t s)) (replicate (halts (t .from) s) (x s)),
+          length-cells f (rowStart t s) (rowLength t s),
+          length-replicate {A = ℕ} (halts (t .from) s) (x s),
+        )
 
     next : (s : ℕ) → begin t (suc s) ≡ begin t s + length (row s)
     next s = omega (arith, begin-next s, row-long s)
@@ -310,3 +318,35 @@ module _ (t : Table) (proper : Proper t) where
         });
         forth = becomes-loop r (unlooped t r g) none ∙ sym q;
       }))
+
+-- ---- the table that is lifted, by whether k is 0
+
+pub source-states : (t : Table) (k : ℕ) → source t k .states ≡ t .states
+source-states t zero = refl
+source-states t (suc k) = refl
+
+pub source-start : (t : Table) (k : ℕ) → source t k .start ≡ t .start
+source-start t zero = refl
+source-start t (suc k) = refl
+
+pub source-kept : (t : Table) (k : ℕ) → (k ≡ 0 → ⊥) → source t k .edges ≡ t .edges
+source-kept t zero some = absurd (some refl)
+source-kept t (suc k) some = refl
+
+-- the states and where the edges leave tell how many edges it has
+pub source-edges : (n start start' : ℕ) (from to marks to' marks' : List ℕ) (k : ℕ)
+    → source (lent n start from to marks) k .edges ≡ source (lent n start' from to' marks') k .edges
+source-edges n start start' from to marks to' marks' zero = refl
+source-edges n start start' from to marks to' marks' (suc k) = refl
+
+pub source-most : (t : Table) → Proper t → (k : ℕ) → source t k .edges ≤ mostEdges + mostStates
+source-most t proper zero = omega (arith, stops-most (t .from) (t .states), proper .few, proper .few-edges)
+source-most t proper (suc k) = omega (arith, proper .few-edges)
+
+pub source-length : (t : Table) → Proper t → (k : ℕ) → length (source t k .from) ≡ source t k .edges
+source-length t proper zero = looped-length t proper (leaves t) (λ s. s)
+source-length t proper (suc k) = proper .from-length
+
+pub source-proper : (t : Table) → Proper t → (k : ℕ) → source t k .edges ≤ mostEdges → Proper (source t k)
+source-proper t proper zero few = looped-proper t proper few
+source-proper t proper (suc k) few = proper

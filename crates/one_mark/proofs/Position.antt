@@ -11,6 +11,7 @@ use Rattle.table.specs.Table.{Table}
 use Rattle.table.specs.Refusal.{Proper}
 use Rattle.one_mark.specs.Climb.{levels}
 use Rattle.one_mark.specs.Place.{rowStart, rowLength, inOrder, leaves, place, stateAt, behind, levelAt, edgeAt}
+use Rattle.one_mark.proofs.Numbers.{one-level}
 use Rattle.one_mark.proofs.Order.{table-row, order-cell, front-up}
 
 -- position q is that of edge e, taken at level j
@@ -136,3 +137,11 @@ module _ (t : Table) (proper : Proper t) (k : ℕ) where
   cell-at f q l =
       let p = stands q l in
       ap (λ (x : ℕ). getD (inOrder t k f) x 0) (sym (p .here)) ∙ cell-place (edgeAt t k q) (levelAt t k q) (p .edge) (p .level) f
+
+  -- with one level, every edge stands at its own number
+  pub edge-plain : levels k ≡ 1 → (q : ℕ) → q < t .edges * levels k → edgeAt t k q ≡ q
+  unfolding place
+  edge-plain one q l =
+      let p = stands q l in
+      let e = edgeAt t k q in
+      one-level (rowStart t (leaves t e)) (levels k) (levelAt t k q) (rowLength t (leaves t e)) e q one (p .level) (row-from e (p .edge)) (p .here)

@@ -2,36 +2,29 @@
 -- lifting holds between the lent table and the translated one. Assumes nothing.
 use mathlib.Core.Path.{_≡_, refl, sym, ap, _∙_, subst}
 use mathlib.Core.Bool.{Bool, cond}
-use mathlib.Core.Logic.{inl, inr, ⊎-elim}
+use mathlib.Core.Logic.{_↔_, inl, inr, ⊎-elim}
 use mathlib.Core.List.{List, [], _∷_, _++_, map}
 use Prim.Native.Nat.{ℕ, zero, suc, _-_, _*_, _≤_, _<_}
 use native.Mathlib.Omega.{arith}
 use lib.Dec.{eqb}
-use lib.ListN.{length, length-map}
+use lib.ListN.{length, getD, length-map}
 use borrow.Author.Tests.{eq-eqb, ne-eqb}
 use Rattle.marks.specs.Mark.{has}
 use Rattle.table.specs.declared.Acceptance.the-variants.{Buchi}
-use Rattle.table.specs.Table.{Table, waiting, Edge, Waits, Step, Walk, Lasso, marksOf}
+use Rattle.table.specs.Table.{Table, waiting, Edge, Stop, Waits, Step, Walk, Lasso, marksOf}
 use Rattle.table.specs.Condition.{Accepted}
 use Rattle.table.specs.Refusal.{mostEdges, Proper}
 use Rattle.one_mark.specs.Climb.{levels, number}
-use Rattle.one_mark.specs.Place.{leaves, arrives, edgeAt}
-use Rattle.one_mark.specs.Source.{looped, unlooped, source, sourceEdge}
-use Rattle.one_mark.specs.Translated.{translated, under}
+use Rattle.one_mark.specs.Place.{rowLength, leaves, arrives, edgeAt}
+use Rattle.one_mark.specs.Source.{stops, looped, unlooped, source, sourceEdge}
+use Rattle.one_mark.specs.Translated.{liftedFrom, translated, under}
 use Rattle.one_mark.specs.Over.{OneOver, OneUnder, turns, Closes}
-use Rattle.one_mark.proofs.Correspond.{underEdge, levelAfter, over, Liftable, stop-below, walk-up, unders-over, over-length, walk-down}
-use Rattle.one_mark.proofs.Looped.{looped-proper, none-stops, withLoops, loops-forth, source-back, loops-back}
+use Rattle.one_mark.proofs.Correspond.{underEdge, levelAfter, over, Liftable, stop-up, stop-down, stop-below, walk-up, unders-over, over-length, walk-down}
+use Rattle.one_mark.proofs.Looped.{stop-none, none-stop, stop-source, other-source, source-start, looped-proper, none-stops, withLoops, loops-forth, source-back, loops-back}
+use Rattle.one_mark.proofs.Position.{stands, cell-at, edge-plain}
 use Rattle.one_mark.proofs.Turns as lifting
 
 -- ---- the table that is lifted
-
-pub source-states : (t : Table) (k : ℕ) → source t k .states ≡ t .states
-source-states t zero = refl
-source-states t (suc k) = refl
-
-pub source-start : (t : Table) (k : ℕ) → source t k .start ≡ t .start
-source-start t zero = refl
-source-start t (suc k) = refl
 
 pub liftable : (t : Table) → Proper t → (k : ℕ) → source t k .edges * levels k ≤ mostEdges → Liftable (source t k) k
 liftable t proper zero few =
@@ -123,23 +116,81 @@ module _ (t : Table) (proper : Proper t) where
   under-waits zero q some e = absurd (omega arith)
   under-waits (suc k) q some e = refl
 
+  -- with k = 0 the translated table has no stop state
+  pub stop-some : (k : ℕ) → source t k .edges * levels k ≤ mostEdges → (y : ℕ) → Stop (translated t k) y → 0 < k
+  stop-some k few y p = let lift = liftable t proper k few in lift .awake _ (stop-below (source t k) k lift y p)
+
   under-source : (k : ℕ) → source t k .edges * levels k ≤ mostEdges → (q y z : ℕ) → Step (translated t k) q y z
       → under t k q ≡ sourceEdge t k (underEdge (source t k) k q)
   under-source k few q y z =
       ⊎-elim
       (λ (p : Edge (translated t k) q y z). under-other k q (λ (e : q ≡ waiting). omega (arith, p .listed, few)))
       (λ (p : Waits (translated t k) q y z).
-      let lift = liftable t proper k few in
-      under-waits k q (lift .awake _ (stop-below (source t k) k lift y (p .stop))) (p .number))
+      under-waits k q (stop-some k few y (p .stop)) (p .number))
+
+-- ---- the position rule
+
+module _ (t : Table) (proper : Proper t) where
+  pub under-waiting : (k : ℕ) → under t k waiting ≡ waiting
+  unfolding under
+  under-waiting k = refl
+
+  pub under-kept : (k : ℕ) → source t k .edges * levels k ≤ mostEdges → (q : ℕ) → 0 < k → q < translated t k .edges → under t k q ≡ edgeAt t k q
+  unfolding under
+  under-kept zero few q some l = absurd (omega arith)
+  under-kept (suc k) few q some l = rw (ne-eqb q waiting (λ (e : q ≡ waiting). omega (arith, few)))
+
+  -- with k = 0 a position is the number of an edge of the looped table
+  module _ (few : looped t .edges * levels 0 ≤ mostEdges) (g s : ℕ) (listed : g < translated t 0 .edges) (leaving : getD (translated t 0 .from) g 0 ≡ s) where
+    abbrev fits : Proper (looped t)
+    fits = looped-proper t proper (omega arith)
+
+    plain : edgeAt (looped t) 0 g ≡ g
+    plain = edge-plain (looped t) fits 0 refl g listed
+
+    leaves-there : leaves (looped t) g ≡ s
+    leaves-there =
+        let at = cell-at (looped t) fits 0 (liftedFrom (looped t) 0) g listed in
+        omega (arith, at, leaving, stands (looped t) fits 0 g listed .level, ap (leaves (looped t)) plain)
+
+    under-looped : under t 0 g ≡ unlooped t s g
+    unfolding under
+    under-looped = rw (ne-eqb g waiting (λ (e : g ≡ waiting). omega arith), plain, leaves-there)
+
+    state-there : s < t .states
+    state-there = omega (arith, leaves-there, fits .from-below g (omega arith))
+
+  pub under-stop : (k : ℕ) → source t k .edges * levels k ≤ mostEdges → (g s : ℕ) → k ≡ 0 → g < translated t k .edges
+      → getD (translated t k .from) g 0 ≡ s → Stop t s → under t k g ≡ waiting
+  under-stop zero few g s none l e p = under-looped few g s l e ∙ stop-source t proper s g (stop-none t proper s p)
+  under-stop (suc k) few g s none l e p = absurd (omega arith)
+
+  pub under-left : (k : ℕ) → source t k .edges * levels k ≤ mostEdges → (g s : ℕ) → k ≡ 0 → g < translated t k .edges
+      → getD (translated t k .from) g 0 ≡ s → (Stop t s → ⊥) → under t k g ≡ g - stops (t .from) s
+  under-left zero few g s none l e p =
+      under-looped few g s l e ∙ other-source t proper s g (λ (z : rowLength t s ≡ 0). p (none-stop t proper s (state-there few g s l e) z))
+  under-left (suc k) few g s none l e p = absurd (omega arith)
+
+  -- ---- the stop states of the translated table
+
+  pub copies : (k : ℕ) → source t k .edges * levels k ≤ mostEdges → (s j : ℕ) → 0 < k → j < levels k → Stop t s ↔ Stop (translated t k) (number k s j)
+  copies zero few s j some l = absurd (omega arith)
+  copies (suc k) few s j some l =
+      let lift = liftable t proper (suc k) few in
+      (stop-up t (suc k) lift s j l, stop-down t (suc k) lift s j l)
 
 -- ---- walks
 
 module _ (t : Table) (proper : Proper t) (k : ℕ) (few : source t k .edges * levels k ≤ mostEdges) where
   walk-forth : (s : ℕ) (es : List ℕ) (z : ℕ) → Walk t s es z → Walk (source t k) s (forths t k s es) z
   walk-forth s [] z w = w
-  walk-forth s (e ∷ es) z w =
-      (w .0, (step-forth t proper k e s (w .0) (w .1 .0),
-      subst (λ (r : ℕ). Walk (source t k) (w .0) (forths t k r es) z) (sym (step-next t proper e s (w .0) (w .1 .0))) (walk-forth (w .0) es z (w .1 .1))))
+  walk-forth s (e ∷ es) z w = (
+    w .0,
+    (
+      step-forth t proper k e s (w .0) (w .1 .0),
+      subst (λ (r : ℕ). Walk (source t k) (w .0) (forths t k r es) z) (sym (step-next t proper e s (w .0) (w .1 .0))) (walk-forth (w .0) es z (w .1 .1)),
+    ),
+  )
 
   walk-back : (s : ℕ) (gs : List ℕ) (z : ℕ) → Walk (source t k) s gs z → Walk t s (map (sourceEdge t k) gs) z
   walk-back s [] z w = w
@@ -153,8 +204,11 @@ module _ (t : Table) (proper : Proper t) (k : ℕ) (few : source t k .edges * le
   forths-back : (s : ℕ) (gs : List ℕ) (z : ℕ) → Walk (source t k) s gs z → forths t k s (map (sourceEdge t k) gs) ≡ gs
   forths-back s [] z w = refl
   forths-back s (g ∷ gs) z w =
-      rw (forth-back t proper k few g s (w .0) (w .1 .0), step-next t proper (sourceEdge t k g) s (w .0) (step-back t proper k few g s (w .0) (w .1 .0)),
-      forths-back (w .0) gs z (w .1 .1))
+      rw (
+        forth-back t proper k few g s (w .0) (w .1 .0),
+        step-next t proper (sourceEdge t k g) s (w .0) (step-back t proper k few g s (w .0) (w .1 .0)),
+        forths-back (w .0) gs z (w .1 .1),
+      )
 
   unders : (y : ℕ) (qs : List ℕ) (z : ℕ) → Walk (translated t k) y qs z → map (under t k) qs ≡ map (sourceEdge t k) (map (underEdge (source t k) k) qs)
   unders y [] z w = refl

@@ -59,11 +59,11 @@ pub record Ready (n k K edges : ℕ) (from to marks leaves arrives bears : List 
   pub few-edges : edges ≤ mostEdges
   pub room : Room 0 edges leaves arrives bears
 
--- the translated lists, then zeros
-pub record Filled (t : Table) (k : ℕ) (leaves arrives bears leaves' arrives' bears' : List ℕ) : Type 0 where
-  pub from-filled : leaves' ≡ translated t k .from ++ replicate (length leaves - length (translated t k .from)) 0
-  pub to-filled : arrives' ≡ translated t k .to ++ replicate (length arrives - length (translated t k .to)) 0
-  pub marks-filled : bears' ≡ translated t k .marks ++ replicate (length bears - length (translated t k .marks)) 0
+-- the lists of the table that was made, then zeros
+pub record Filled (made : Table) (leaves arrives bears leaves' arrives' bears' : List ℕ) : Type 0 where
+  pub from-filled : leaves' ≡ made .from ++ replicate (length leaves - length (made .from)) 0
+  pub to-filled : arrives' ≡ made .to ++ replicate (length arrives - length (made .to)) 0
+  pub marks-filled : bears' ≡ made .marks ++ replicate (length bears - length (made .marks)) 0
 
 -- ---- the rules' number, place, counts and new start for each answer. The number is 0 exactly if a table was made (`Faithful.outputs-hold` and
 -- `Faithful.refused-untouched`, in proofs/, go by it)

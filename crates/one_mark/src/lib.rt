@@ -18,6 +18,7 @@ ghost use Prim.Native.Nat.{_-_, _≤_};
 ghost use lib.ListN.{length, replicate};
 ghost use lib.Seq.{sets};
 ghost use Rattle.table.specs.Table.{lent};
+ghost use Rattle.one_mark.specs.Translated.{translated};
 ghost use Rattle.one_mark.specs.Outcome.{Outcome, Ready, Filled, answer, large, short};
 
 // What the translation answers: both counts and the new start, or why it refuses, with number and place.
@@ -130,7 +131,7 @@ fn fill(
 )
     requires { ⌜ Ready (shape .states) (shape .k) (shape .levels) edges (now from) (now to) (now marks) (now leaves) (now arrives) (now bears) ⌝ }
     ensures { λ _.
-        ⌜ Filled (lent (shape .states) 0 (now (from .entry)) (now (to .entry)) (now (marks .entry))) (shape .k)
+        ⌜ Filled (translated (lent (shape .states) 0 (now (from .entry)) (now (to .entry)) (now (marks .entry))) (shape .k))
         (now (leaves .entry)) (now (arrives .entry)) (now (bears .entry)) (now (leaves .exit)) (now (arrives .exit)) (now (bears .exit)) ⌝ }
 {
     lift_table(shape, from, to, marks, leaves, arrives, bears);

@@ -64,8 +64,8 @@ def distances(table):
     arrives = {}
     for leaves, to, _ in table["edges"]:
         arrives.setdefault(leaves, []).append(to)
-    away = {table["start"]: 0}
-    for state in (todo := [table["start"]]):
+    away, todo = {table["start"]: 0}, [table["start"]]
+    for state in todo:  # which grows as states are met
         for to in arrives.get(state, []):
             if to not in away:
                 away[to] = away[state] + 1

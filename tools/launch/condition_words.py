@@ -33,7 +33,7 @@ def streett(table):
 def rabin_pair(table, pair):
     need = table["needs"][pair]
     forbidden = sum(1 + before for before in table["needs"][:pair])
-    return f"mark {forbidden} happens only finitely often" + (f", {again(forbidden + 1, need)}" if need else "")
+    return f"mark {forbidden} happens only finitely often" + (f", and {again(forbidden + 1, need)}" if need else "")
 
 
 def rabin(table):

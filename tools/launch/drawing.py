@@ -64,8 +64,8 @@ def distances(table):
     arrives = {}
     for leaves, to, _ in table["edges"]:
         arrives.setdefault(leaves, []).append(to)
-    away = {table["start"]: 0}
-    for state in (todo := [table["start"]]):
+    away, todo = {table["start"]: 0}, [table["start"]]
+    for state in todo:  # which grows as states are met
         for to in arrives.get(state, []):
             if to not in away:
                 away[to] = away[state] + 1
@@ -105,7 +105,8 @@ def run_lines(prefix, cycle):
     if prefix:
         lines.append(coloured(BLUE, f"blue, dashed: {condition_words.in_a_row('step', 1, len(prefix))}, once"))
     if cycle:
-        lines.append(coloured(ORANGE, f"<B>orange, wide: {condition_words.in_a_row('step', len(prefix) + 1, len(cycle))}, round and round</B>"))
+        how = "a halt for ever" if STOP in cycle else "round and round"
+        lines.append(coloured(ORANGE, f"<B>orange, wide: {condition_words.in_a_row('step', len(prefix) + 1, len(cycle))}, {how}</B>"))
     if set(prefix) & set(cycle):
         lines.append("blue and orange side by side: an edge of both")
     return lines

@@ -1,7 +1,7 @@
 """The manners that the launchers share; not a command by itself.
 
-A launcher takes a file name or standard input, `--help`, `--version` and `--quiet`. It builds its program where sources changed (a release has none), hands it
-the input, writes the program's lines to standard output and nothing else, says on standard error in one sentence what they mean, and ends with an exit status.
+A launcher takes a file name or standard input, `--help`, `--version` and `--quiet`. It builds its program where sources changed (a release has none), hands it the input,
+writes the program's lines, or what is made of them, to standard output and nothing else, says on standard error in one sentence what they mean, and ends with an exit status.
 Whatever goes wrong on the way (input, building, output) is told on standard error and ends with NO_ANSWER: it never looks like an empty text or like a good answer.
 """
 
@@ -222,8 +222,8 @@ def parsed(words, use, own):
             return f"mukhadero {(ROOT / 'VERSION').read_text()}", quiet, None, options
         if word == "--quiet":
             quiet = True
-        elif word in own:
-            options[word.strip("-")] = value_of(word, words, use) if own[word] else True
+        elif word.startswith("--") and word[2:] in own:
+            options[word[2:]] = value_of(word, words, use) if own[word[2:]] else True
         elif word.startswith("-"):
             raise NoAnswer(f"{word} is no option\n{use.rstrip()}")
         else:
@@ -235,9 +235,10 @@ def parsed(words, use, own):
 
 def value_of(option, words, use):
     """The word behind an option."""
-    for word in words:
-        return word
-    raise NoAnswer(f"{option} takes a word behind it\n{use.rstrip()}")
+    word = next(words, None)
+    if word is None:
+        raise NoAnswer(f"{option} takes a word behind it\n{use.rstrip()}")
+    return word
 
 
 def answer_to(words, name, use, awaited, form_of, own):
@@ -265,9 +266,9 @@ def answer_to(words, name, use, awaited, form_of, own):
     return status
 
 
-def main(name, use, awaited, form_of, own={}):
-    """A launcher. `name`: its own; `use`: what --help says of it alone; `awaited`: what it reads, in words; `form_of` takes the first bytes of the input and the options of `own`
-    that are given, and gives its form; `own`: the launcher's own options, each with whether a word follows it."""
+def main(name, use, awaited, form_of, **own):
+    """A launcher. `name`: its own; `use`: what --help says of it alone; `awaited`: what it reads, in words; `form_of` takes the first bytes of the input and the launcher's own
+    options that are given, and gives its form; `own`: these options without their dashes, each with whether a word follows it."""
     signal.signal(signal.SIGINT, signal.SIG_DFL)
     try:
         status = answer_to(sys.argv[1:], name, use + ("" if RELEASED else BUILDS) + NAMES, awaited, form_of, own)

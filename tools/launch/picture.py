@@ -73,4 +73,4 @@ def form_of(first, dot=False, names=None):
     return manners.Form(program, words.LONGEST, read_answer, made)
 
 
-manners.main("picture", USE, "a job", form_of, {"--dot": False, "--names": True})
+manners.main("picture", USE, "a job", form_of, dot=False, names=True)

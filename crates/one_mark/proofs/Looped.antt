@@ -3,7 +3,7 @@
 use mathlib.Core.Path.{_≡_, refl, sym, ap, _∙_, subst}
 use mathlib.Core.Bool.{Bool, cond}
 use mathlib.Core.Logic.{_↔_, inl, inr, ⊎-elim}
-use mathlib.Core.List.{List, [], _∷_, _++_}
+use mathlib.Core.List.{List}
 use Prim.Native.Nat.{ℕ, zero, suc, _+_, _-_, _≤_, _<_}
 use native.Mathlib.Omega.{arith}
 use native.Mathlib.Nat.{zero-add, add-zero, add-suc}
@@ -13,8 +13,8 @@ use borrow.Author.Tests.{eq-eqb, ne-eqb}
 use Rattle.marks.proofs.Cases.{same, below}
 use Rattle.table.specs.Table.{Table, lent, waiting, Edge, Stop, Waits, Step, borne}
 use Rattle.table.specs.Refusal.{mostStates, mostEdges, Proper}
-use Rattle.table.proofs.Rows.{Sorted, Begins}
-use Rattle.one_mark.specs.Place.{front, rowStart, rowLength, cells, each, leaves, arrives}
+use Rattle.table.proofs.Rows.{Begins}
+use Rattle.one_mark.specs.Place.{rowStart, rowLength, cells, each, leaves, arrives}
 use Rattle.one_mark.specs.Source.{halts, stops, rowOr, looped, source, unlooped}
 use Rattle.one_mark.proofs.Lists.{length-cells, cells-at, each-length, each-at}
 use Rattle.one_mark.proofs.Order.{front-zero, front-up, begins-front, table-row, rows-end}

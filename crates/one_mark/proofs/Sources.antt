@@ -2,7 +2,7 @@
 -- lifting holds between the lent table and the translated one. Assumes nothing.
 use mathlib.Core.Path.{_≡_, refl, sym, ap, _∙_, subst}
 use mathlib.Core.Bool.{Bool, cond}
-use mathlib.Core.Logic.{_↔_, inl, inr, ⊎-elim}
+use mathlib.Core.Logic.{_↔_, inl, ⊎-elim}
 use mathlib.Core.List.{List, [], _∷_, _++_, map}
 use Prim.Native.Nat.{ℕ, zero, suc, _-_, _*_, _≤_, _<_}
 use native.Mathlib.Omega.{arith}
@@ -11,7 +11,7 @@ use lib.ListN.{length, getD, length-map}
 use borrow.Author.Tests.{eq-eqb, ne-eqb}
 use Rattle.marks.specs.Mark.{has}
 use Rattle.table.specs.declared.Acceptance.the-variants.{Buchi}
-use Rattle.table.specs.Table.{Table, waiting, Edge, Stop, Waits, Step, Walk, Lasso, marksOf}
+use Rattle.table.specs.Table.{Table, waiting, Edge, Stop, Waits, Step, Walk, marksOf}
 use Rattle.table.specs.Condition.{Accepted}
 use Rattle.table.specs.Refusal.{mostEdges, Proper}
 use Rattle.one_mark.specs.Climb.{levels, number}

@@ -16,10 +16,11 @@ use Rattle.one_mark.specs.Outcome.{Outcome, answer, numberOf, placeOf, s
 use Rattle.one_mark.specs.Faithful.{Lifts, Positions, Stops, Faithful}
 use Rattle.one_mark.proofs.Accepted.{lent-again, lifted-sound}
 use Rattle.one_mark.proofs.Answers.{fit, granted, RefusedRow, refused-at}
-use Rattle.one_mark.proofs.Looped.{stop-empty}
+use Rattle.one_mark.proofs.Lassos.{one-over, one-under, lasso-down, lasso-up}
 use Rattle.one_mark.proofs.Order.{whole-length}
 use Rattle.one_mark.proofs.Position.{stands, cell-at, place-most, level-place, edge-place}
-use Rattle.one_mark.proofs.Sources.{liftable, under-kept, under-stop, under-left, under-waiting, copies, stop-some, one-over, one-under, lasso-down, lasso-up}
+use Rattle.one_mark.proofs.Sources.{liftable, under-kept, under-stop, under-left, under-waiting, copies, stop-some}
+use Rattle.one_mark.proofs.StopStates.{stop-empty}
 
 -- ---- two results that the contract allows for one input are equal
 

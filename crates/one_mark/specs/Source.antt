@@ -7,7 +7,7 @@ use lib.ListN.{replicate}
 use Rattle.table.specs.Table.{Table, waiting, borne}
 use Rattle.one_mark.specs.Place.{front, rowStart, rowLength, cells, each, leaves, arrives}
 
--- 1 if s is a stop state, 0 if an edge leaves it (`Looped.stop-empty`, in proofs/: the stop states are those with an empty row)
+-- 1 if s is a stop state, 0 if an edge leaves it (`StopStates.stop-empty`, in proofs/: the stop states are those with an empty row)
 abbrev pub halts : List ℕ → ℕ → ℕ
 halts from s = 1 - (front (suc s) from - front s from)
 

@@ -170,7 +170,9 @@ module _ (t : Table) (proper : Proper t) where
         to-below = λ e l.
             let w = find e l in
             by-row e w
-            (λ i q h. omega (arith, own-cell (arrives t) (λ s. s) e (w .state) i (w .under) q h, proper .to-below (rowStart t (w .state) + i) (row-edge t proper (w .state) i h .listed)))
+            (λ i q h.
+            let below-n = proper .to-below (rowStart t (w .state) + i) (row-edge t proper (w .state) i h .listed) in
+            omega (arith, own-cell (arrives t) (λ s. s) e (w .state) i (w .under) q h, below-n))
             (λ q none. omega (arith, loop-cell (arrives t) (λ s. s) e (w .state) (w .under) q none, w .under));
         sorted = looped-sorted;
       }

@@ -16,7 +16,6 @@ use Rattle.one_mark.specs.Source.{stops, looped, unlooped, source, sourc
 use Rattle.one_mark.specs.Translated.{liftedFrom, translated, under}
 use Rattle.one_mark.proofs.Correspond.{underEdge, Liftable, stop-up, stop-down, stop-below}
 use Rattle.one_mark.proofs.Position.{stands, cell-at, edge-plain}
-use Rattle.one_mark.proofs.Turns as lifting
 use Rattle.one_mark.proofs.StopStates.{stop-none, none-stop}
 use Rattle.one_mark.proofs.Looped.{looped-proper, none-stops}
 use Rattle.one_mark.proofs.Waiting.{stop-source, other-source, withLoops, loops-forth, source-back, loops-back}
@@ -29,8 +28,9 @@ liftable t proper zero few =
     record { proper = looped-proper t proper fits; few = few; awake = λ s p. absurd (none-stops t proper fits s p) }
 liftable t proper (suc k) few = record { proper = proper; few = few; awake = λ s p. omega arith }
 
--- ---- there: what the edges of a walk from s become
+-- ---- steps of the lent table are steps of the one that is lifted
 
+-- what edge e from s becomes there
 abbrev pub forth : Table → ℕ → ℕ → ℕ → ℕ
 forth t zero s e = withLoops t s e
 forth t (suc k) s e = e
@@ -56,7 +56,6 @@ module _ (t : Table) (proper : Proper t) where
   back-forth zero e s s' p = ap (λ (r : ℕ). unlooped t r (withLoops t s e)) (loops-forth t proper e s s' p .leaves) ∙ source-back t proper e s s' p
   back-forth (suc k) e s s' p = refl
 
-module _ (t : Table) (proper : Proper t) where
   -- ---- and back
 
   -- with k = 0 each step of the table that is lifted is an edge
@@ -77,9 +76,9 @@ module _ (t : Table) (proper : Proper t) where
 
   -- ---- the source edge under a translated edge is the one that the edge there stands for
 
-  under-other : (k q : ℕ) → (q ≡ waiting → ⊥) → under t k q ≡ sourceEdge t k (underEdge (source t k) k q)
+  under-listed : (k q : ℕ) → (q ≡ waiting → ⊥) → under t k q ≡ sourceEdge t k (underEdge (source t k) k q)
   unfolding under
-  under-other k q apart = rw (ne-eqb q waiting apart)
+  under-listed k q apart = rw (ne-eqb q waiting apart)
 
   under-waits : (k q : ℕ) → 0 < k → q ≡ waiting → under t k q ≡ sourceEdge t k (underEdge (source t k) k q)
   unfolding under
@@ -94,9 +93,8 @@ module _ (t : Table) (proper : Proper t) where
       → under t k q ≡ sourceEdge t k (underEdge (source t k) k q)
   under-source k few q y z =
       ⊎-elim
-      (λ (p : Edge (translated t k) q y z). under-other k q (λ (e : q ≡ waiting). omega (arith, p .listed, few)))
-      (λ (p : Waits (translated t k) q y z).
-      under-waits k q (stop-some k few y (p .stop)) (p .number))
+      (λ (p : Edge (translated t k) q y z). under-listed k q (λ (e : q ≡ waiting). omega (arith, p .listed, few)))
+      (λ (p : Waits (translated t k) q y z). under-waits k q (stop-some k few y (p .stop)) (p .number))
 
 -- ---- the position rule
 
@@ -135,11 +133,11 @@ module _ (t : Table) (proper : Proper t) where
   under-stop zero few g s none l e p = under-looped few g s l e ∙ stop-source t proper s g (stop-none t proper s p)
   under-stop (suc k) few g s none l e p = absurd (omega arith)
 
-  pub under-left : (k : ℕ) → source t k .edges * levels k ≤ mostEdges → (g s : ℕ) → k ≡ 0 → g < translated t k .edges
+  pub under-other : (k : ℕ) → source t k .edges * levels k ≤ mostEdges → (g s : ℕ) → k ≡ 0 → g < translated t k .edges
       → getD (translated t k .from) g 0 ≡ s → (Stop t s → ⊥) → under t k g ≡ g - stops (t .from) s
-  under-left zero few g s none l e p =
+  under-other zero few g s none l e p =
       under-looped few g s l e ∙ other-source t proper s g (λ (z : rowLength t s ≡ 0). p (none-stop t proper s (state-there few g s l e) z))
-  under-left (suc k) few g s none l e p = absurd (omega arith)
+  under-other (suc k) few g s none l e p = absurd (omega arith)
 
   -- ---- the stop states of the translated table
 

@@ -20,7 +20,7 @@ stops from (suc s) = stops from s + halts from s
 abbrev pub rowOr : Table → (ℕ → ℕ) → ℕ → ℕ → List ℕ
 rowOr t f x s = cells f (rowStart t s) (rowLength t s) ++ replicate (halts (t .from) s) x
 
--- m + z edges, z the number of all stop states: the edges of t, and a loop s>s{} at each stop state s
+-- m + z edges, z the number of all stop states: the edges of t, and a loop s>s{} at each stop state s, which is marked like every edge with k = 0
 abbrev pub looped : Table → Table
 looped t =
     record {

@@ -197,7 +197,8 @@ fn many_loops(label: &[u8], n: u32, k: u32, zeros: &[u32]) {
     print_outputs(&leaves[32767..], &arrives[32767..], &bears[32767..]);
 }
 
-fn main() {
+// Table A, and tables of one state or one edge.
+fn small_tables() {
     longer(b"shift case 14, two cells more: ", 0, 2);
     exact(b"as many cells as needed, start 1: ", 1);
     shorter(b"one cell short: ");
@@ -210,11 +211,17 @@ fn main() {
     two_loops(b"k = 32, all marks but 5: ", 32, 4294967263);
     last_loop(b"n = 2048: ", 2048, 2047);
     last_loop(b"n = 2049: ", 2049, 2048);
+}
+
+fn stop_states() {
     halting_longer(b"two stop states, k = 0: ", 0);
     halting_longer(b"two stop states, k = 1: ", 1);
     halting_longer(b"two stop states, k = 2: ", 2);
     halting_shorter(b"two stop states, k = 0, one cell short: ", 0);
     halting_shorter(b"two stop states, k = 1, the same cells: ", 1);
+}
+
+fn many_edges() {
     let zeros = [0u32; 32768];
     many_loops(b"m = 16384, k = 2: ", 1, 2, &zeros[..16384]);
     many_loops(b"m = 16385, k = 2: ", 1, 2, &zeros[..16385]);
@@ -239,4 +246,10 @@ fn main() {
         &zeros[..28674],
     );
     many_loops(b"no edges, k = 0: ", 4096, 0, &zeros[..0]);
+}
+
+fn main() {
+    small_tables();
+    stop_states();
+    many_edges();
 }

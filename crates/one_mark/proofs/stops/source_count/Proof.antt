@@ -4,7 +4,8 @@ use mathlib.Core.List.{[]}
 use native.Mathlib.Omega.{arith}
 use borrow.Author.Needs.{needs}
 use Rattle.table.specs.Table.{lent}
-use Rattle.one_mark.proofs.Looped.{stops-most, source-kept}
+use Rattle.one_mark.proofs.Looped.{source-kept}
+use Rattle.one_mark.proofs.StopStates.{stops-most}
 use Rattle.one_mark.proofs.stops.source_count.Statement.{statement}
 use Rattle.one_mark.proofs.stops.source_count.Tie as tie
 

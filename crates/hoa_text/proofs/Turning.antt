@@ -24,9 +24,11 @@ use Rattle.hoa_writer.specs.Written.{hoaText}
 use Rattle.hoa_writer.specs.Writing.{mostBytes, writeRefusal, writtenOf, outputOf, Writes}
 use Rattle.hoa_writer.proofs.Writings.{not-large}
 use Rattle.hoa_writer.proofs.Size.{most-bytes}
-use Rattle.judge_text.specs.Replied.{edgeCells, jobTable, refusedText}
+use Rattle.job_text.specs.Asked.{edgeCells, jobTable}
+use Rattle.judge_text.specs.Replied.{refusedText}
 use Rattle.judge_text.proofs.Limits.{Limited, Bounded, read-bounded}
-use Rattle.judge_text.proofs.Telling.{unlike, same-text, part-is, printed-all}
+use Rattle.job_text.proofs.Tables.{unlike, part-is}
+use Rattle.judge_text.proofs.Telling.{same-text, printed-all}
 use Rattle.hoa_text.specs.Turned.{writtenFor, turned, Stands, Turned}
 
 -- ---- what the writer gives for a job

@@ -18,10 +18,11 @@ use Rattle.job_text.specs.Value.{Edge, padTo}
 use Rattle.job_text.specs.Job.{mostJobEdges, Job, Outcome, job, fault, readJob}
 use Rattle.job_text.specs.Reading.{readingOf, cellsOf, Read}
 use Rattle.answer_text.specs.Printed.{Prints}
-use Rattle.hoa_writer.specs.declared.Written.{Written}
-use Rattle.hoa_writer.specs.declared.Written.the-variants as written
+use Rattle.writing.specs.declared.Written.{Written}
+use Rattle.writing.specs.declared.Written.the-variants as written
+use Rattle.writing.specs.Writing.{writtenOf, outputOf}
 use Rattle.hoa_writer.specs.Written.{hoaText}
-use Rattle.hoa_writer.specs.Writing.{mostBytes, writeRefusal, writtenOf, outputOf, Writes}
+use Rattle.hoa_writer.specs.Writing.{mostBytes, writeRefusal, Writes}
 use Rattle.hoa_writer.proofs.Writings.{not-large}
 use Rattle.hoa_writer.proofs.Size.{most-bytes}
 use Rattle.job_text.specs.Asked.{edgeCells, jobTable}

@@ -1,11 +1,12 @@
 -- How long a text is at most: 11,336 bytes (docs/RULES.md, "The job text and the printed answer", the writer). Assumes nothing.
-use mathlib.Core.Path.{_≡_, refl, ap, _∙_}
+use mathlib.Core.Path.{_≡_, refl, sym, ap, _∙_}
+use mathlib.Core.Bool.{Bool, true, false, cond}
 use mathlib.Core.List.{List, [], _∷_, _++_}
 use Prim.Native.Nat.{ℕ, zero, suc, _+_, _*_, _≤_, _<_}
 use native.Mathlib.Omega.{arith}
 use lib.ListN.{length, getD, length-append}
 use Rattle.table.specs.declared.Acceptance.the-variants.{Buchi}
-use Rattle.table.specs.declared.Finding.the-variants.{Sound}
+use Rattle.table.specs.declared.Finding.the-variants.{Sound, Refused}
 use Rattle.table.specs.Table.{lent}
 use Rattle.table.specs.Refusal.{refusal}
 use Rattle.table.proofs.Sound.{Fit, sound-fit}
@@ -14,11 +15,12 @@ use Rattle.puts.proofs.Puts.{digits-few}
 use Rattle.job_text.specs.Text.{newline, comma}
 use Rattle.job_text.specs.Value.{buchi, dash, job}
 use Rattle.job_text.specs.Job.{mostJobStates, mostJobEdges, form=, states=, start=, kind=, count=, need=, edges=, edge=, end=}
+use Rattle.job_text.proofs.Text.{byTest}
 use Rattle.writing.proofs.Writings as writings
 use Rattle.job_writer.specs.Written.{hexText, shown, edgeText, edgesText, headText, jobText}
 use Rattle.job_writer.specs.Writing.{mostBytes, tooLarge, writeRefusal}
 use Rattle.job_writer.proofs.Hex.{hex-length}
-use Rattle.job_writer.proofs.Lists.{not-large}
+use Rattle.job_writer.proofs.Lists.{not-large, limits}
 
 -- ---- lines
 
@@ -120,3 +122,15 @@ room-enough n start from to marks sound l h room enough =
     let t = lent n start from to marks in
     let long = most-bytes n start from to marks (sound-fit n start from to marks (Buchi 1) [] sound) l h in
     writings.room-enough (refusal t (Buchi 1) []) (tooLarge t) 23 (jobText t) room sound (not-large t l h) (omega arith)
+
+-- behind rows 1 to 7, only the limits refuse such an output
+pub by-size : (n start : ℕ) (from to marks : List ℕ) → refusal (lent n start from to marks) (Buchi 1) [] ≡ Sound
+    → writeRefusal (lent n start from to marks) mostBytes ≡ cond (tooLarge (lent n start from to marks)) (Refused 23 0) Sound
+by-size n start from to marks sound =
+    let t = lent n start from to marks in
+    byTest (tooLarge t)
+    (λ (e : tooLarge t ≡ true).
+    writings.too-large (refusal t (Buchi 1) []) (tooLarge t) 23 (jobText t) mostBytes sound e ∙ sym (ap (λ (b : Bool). cond b (Refused 23 0) Sound) e))
+    (λ (e : tooLarge t ≡ false).
+    let small = limits t e in
+    room-enough n start from to marks sound (small .0) (small .1) mostBytes (omega arith) ∙ sym (ap (λ (b : Bool). cond b (Refused 23 0) Sound) e))

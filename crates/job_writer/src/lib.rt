@@ -32,24 +32,11 @@ fn put_head(out: &mut [u8], n: u32, start: u32, m: u32) -> usize
 {
     let starts = put_held(out, 0, b"form=2\nstates=", n, b'\n');
     let kinds = put_held(out, starts, b"start=", start, b'\n');
-    put_held(
-        out,
-        kinds,
-        b"kind=buchi\ncount=1\nneed=-\nedges=",
-        m,
-        b'\n',
-    )
+    put_held(out, kinds, b"kind=buchi\ncount=1\nneed=-\nedges=", m, b'\n')
 }
 
 // The text of a table that rows 1 to 7 and the limits let pass.
-fn put_text(
-    out: &mut [u8],
-    n: u32,
-    start: u32,
-    from: &[u32],
-    to: &[u32],
-    marks: &[u32],
-) -> usize
+fn put_text(out: &mut [u8], n: u32, start: u32, from: &[u32], to: &[u32], marks: &[u32]) -> usize
     requires { ⌜ Passed (now from) (now to) (now marks) ⌝ }
     ensures { λ r. ⌜ Put (now (out .entry)) (now (out .exit)) 0 (jobText (lent n start (now (from .entry)) (now (to .entry)) (now (marks .entry)))) r ⌝ }
 {

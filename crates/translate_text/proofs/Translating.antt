@@ -5,6 +5,7 @@ use mathlib.Core.Bool.{Bool, true, false, cond, _||_}
 use mathlib.Core.List.{List, [], map}
 use Prim.Native.Nat.{ℕ, _-_, _≤_}
 use native.Mathlib.Omega.{arith}
+use lib.Dec.{ltb}
 use lib.ListN.{length, take, drop, replicate, length-append}
 use borrow.Author.Tests.{le-ltb, ltb-false}
 use Rattle.table.specs.declared.Acceptance.{Acceptance}
@@ -30,6 +31,7 @@ use Rattle.answer_text.specs.declared.Printed.{Printed}
 use Rattle.answer_text.specs.declared.Printed.the-variants as printed
 use Rattle.answer_text.specs.Printed.{refusedText, Prints}
 use Rattle.answer_text.proofs.Refusals.{printed-all}
+use Rattle.writing.specs.declared.Written.{Written}
 use Rattle.writing.specs.declared.Written.the-variants as written
 use Rattle.writing.specs.Writing.{orElse, writtenOf, outputOf, Stands}
 use Rattle.job_writer.specs.Written.{jobText}
@@ -47,7 +49,7 @@ told-stands wide fits P e = let all = printed-all fits P e in record { all = all
 
 -- what is told lies within what was lent
 pub turned-within : {text out : List ℕ} {size : ℕ} → Turned text out size → size ≤ length out
-turned-within {text} {size = size} T = omega (arith, T .all, ap length (T .cells), length-append (turned (readJob text)) (replicate (mostBytes - size) 0))
+turned-within {text} {size = size} T = omega (arith, T .held .all, ap length (T .held .cells), length-append (turned (readJob text)) (replicate (mostBytes - size) 0))
 
 -- one refusal, one text
 same-text : {number place x p : ℕ} → Refused number place ≡ Refused x p → refusedText number place ≡ refusedText x p
@@ -60,8 +62,9 @@ module _ (t : Table) (out : List ℕ) (wide : length out ≡ mostBytes) where
   here = ap (writeRefusal t) wide
 
   -- the text stands in the output
-  pub written-stands : {out' : List ℕ} {size : ℕ} → Writes t out out' (written.Text size) → Stands mostBytes (writtenTable t) out' size
-  written-stands {out'} {size} W = by (writeRefusal t mostBytes) refl (W .answer ∙ ap (writtenOf (jobText t)) here) (W .output ∙ ap (outputOf (jobText t) out) here)
+  pub written-stands : {out' : List ℕ} {w : Written} {size : ℕ} → Writes t out out' w → w ≡ written.Text size → Stands mostBytes (writtenTable t) out' size
+  written-stands {out'} {w} {size} W q =
+      by (writeRefusal t mostBytes) refl (sym q ∙ W .answer ∙ ap (writtenOf (jobText t)) here) (W .output ∙ ap (outputOf (jobText t) out) here)
     where
       by : (f : Finding) → writeRefusal t mostBytes ≡ f → written.Text size ≡ writtenOf (jobText t) f → out' ≡ outputOf (jobText t) out f
           → Stands mostBytes (writtenTable t) out' size
@@ -72,16 +75,16 @@ module _ (t : Table) (out : List ℕ) (wide : length out ≡ mostBytes) where
       by (Refused number place) e a o = let z : _≡_ {A = ℕ} 0 1 = cc in absurd (omega arith)
 
   -- the refusal is the one to be told
-  pub refusal-stands : {out' out'' : List ℕ} {number place size : ℕ} → Writes t out out' (written.Refused number place)
+  pub refusal-stands : {out' out'' : List ℕ} {w : Written} {number place size : ℕ} → Writes t out out' w → w ≡ written.Refused number place
       → Stands mostBytes (refusedText number place) out'' size → Stands mostBytes (writtenTable t) out'' size
-  refusal-stands {out'} {out''} {number} {place} {size} W S = by (writeRefusal t mostBytes) refl (W .answer ∙ ap (writtenOf (jobText t)) here)
+  refusal-stands {out'} {out''} {w} {number} {place} {size} W q S = by (writeRefusal t mostBytes) refl (sym q ∙ W .answer ∙ ap (writtenOf (jobText t)) here)
     where
       by : (f : Finding) → writeRefusal t mostBytes ≡ f → written.Refused number place ≡ writtenOf (jobText t) f → Stands mostBytes (writtenTable t) out'' size
       by Sound e a = let z : _≡_ {A = ℕ} 0 1 = cc in absurd (omega arith)
       by (Refused x p) e a =
           let n : number ≡ x = cc in
-          let q : place ≡ p = cc in
-          let is : writtenTable t ≡ refusedText number place = ap (λ (f : Finding). toldOr f (jobText t)) e ∙ rw (n, q) in
+          let m : place ≡ p = cc in
+          let is : writtenTable t ≡ refusedText number place = ap (λ (f : Finding). toldOr f (jobText t)) e ∙ rw (n, m) in
           rw is S
 
 -- ---- what the translation gives
@@ -89,7 +92,7 @@ module _ (t : Table) (out : List ℕ) (wide : length out ≡ mostBytes) where
 -- a table that row 10 lets pass is not too large for what is lent
 lent-enough : (states edges : ℕ) → large states edges ≡ false → short edges mostEdges mostEdges mostEdges ≡ false
 lent-enough states edges e =
-    let few = ltb-false mostEdges edges (either-false _ _ e .1) in
+    let few = ltb-false mostEdges edges (either-false (ltb mostStates states) (ltb mostEdges edges) e .1) in
     rw (le-ltb mostEdges edges few)
 
 -- the translation refuses as rows 1 to 7 and 10 do
@@ -102,6 +105,14 @@ cause-by Sound false few states edges start number place next h q =
     let r : translation.Made states edges start ≡ translation.Refused number place = rw (h refl) at q in
     let z : _≡_ {A = ℕ} 0 1 = cc in
     absurd (omega arith)
+
+-- what is made lies within what was lent
+pub made-fits : {t : Table} {k : ℕ} {l a b l' a' b' : List ℕ} {r : Translation} {states edges first : ℕ} → Outcome t k l a b r l' a' b'
+    → r ≡ translation.Made states edges first → (edges ≤ length l) × ((edges ≤ length a) × (edges ≤ length b))
+made-fits {t} {k} {l} {a} {b} {r = r} {edges = edges} O e =
+    let g = granted t k (length l) (length a) (length b) r (O .answered) (ap numberOf e) in
+    let same : edges ≡ translated t k .edges = ap edgesOf (sym e ∙ g .made) in
+    (omega (arith, g .first-room), (omega (arith, g .second-room), omega (arith, g .third-room)))
 
 module _ (n start : ℕ) (from to marks : List ℕ) (k : ℕ) (l a b : List ℕ) (l-long : length l ≡ mostEdges) (a-long : length a ≡ mostEdges) (b-long : length b ≡ mostEdges)
     (r : Translation) (l' a' b' : List ℕ) (O : Outcome (lent n start from to marks) k l a b r l' a' b') where
@@ -135,14 +146,6 @@ module _ (n start : ℕ) (from to marks : List ℕ) (k : ℕ) (l a b : List ℕ)
         let holds = outputs-hold n start from to marks k l a b r l' a' b' O none in
         let z : edges - 0 ≡ edges = omega arith in
         rw z (rw e at holds)
-
-    -- it lies within what was lent
-    pub made-within : edges ≤ mostEdges
-    unfolding t
-    made-within =
-        let g = granted t k (length l) (length a) (length b) r (O .answered) none in
-        let same : edges ≡ translated t k .edges = ap edgesOf (sym e ∙ g .made) in
-        omega (arith, g .few-edges)
 
     -- rows 1 to 7 and 10 let it pass: only the writer's limits are left
     cause-is : cause t k ≡ cond (tooLarge (translated t k)) (Refused 23 0) Sound
@@ -189,7 +192,7 @@ read-by (job j) r b b' b'' from to marks e s f g h =
 module _ {text b b' b'' from to marks : List ℕ} {r : Reading} (R : Read text b b' b'' from to marks r) where
   -- the reader refuses, and the refusal stands in the output
   pub reader-refuses : {number place : ℕ} {out : List ℕ} {size : ℕ} → r .finding ≡ Refused number place → Stands mostBytes (refusedText number place) out size → Turned text out size
-  reader-refuses {number} {place} f S = rw (refused-by (readJob text) r number place (R .reading) f) S
+  reader-refuses {number} {place} f S = record { held = rw (refused-by (readJob text) r number place (R .reading) f) S }
 
   module _ (sound : r .finding ≡ Sound) where
     by-kind : turned (readJob text)
@@ -200,11 +203,11 @@ module _ {text b b' b'' from to marks : List ℕ} {r : Reading} (R : Read text b
     pub buchi-turned : {k : ℕ} {out : List ℕ} {size : ℕ} → r .condition ≡ Buchi k
         → Stands mostBytes (turnedTable (lent (r .states) (r .start) (take (r .edges - 0) (drop 0 from)) (take (r .edges - 0) (drop 0 to)) (take (r .edges - 0) (drop 0 marks))) k) out size
         → Turned text out size
-    buchi-turned e S = rw (by-kind, e) S
+    buchi-turned e S = record { held = rw (by-kind, e) S }
 
     -- of another kind
     pub streett-turned : {p : ℕ} {out : List ℕ} {size : ℕ} → r .condition ≡ Streett p → Stands mostBytes (refusedText 4 0) out size → Turned text out size
-    streett-turned e S = rw (by-kind, e) S
+    streett-turned e S = record { held = rw (by-kind, e) S }
 
     pub rabin-turned : {p : ℕ} {out : List ℕ} {size : ℕ} → r .condition ≡ Rabin p → Stands mostBytes (refusedText 4 0) out size → Turned text out size
-    rabin-turned e S = rw (by-kind, e) S
+    rabin-turned e S = record { held = rw (by-kind, e) S }

@@ -7,5 +7,5 @@ use Rattle.translate_text.specs.Turned.{Turned}
 -- one text, one length and one output
 pub turned-once : (text out out' : List ℕ) (size size' : ℕ) → Turned text out size → Turned text out' size' → (out ≡ out') × (size ≡ size')
 turned-once text out out' size size' T U =
-    let n : size ≡ size' = T .all ∙ sym (U .all) in
-    (T .cells ∙ rw n (sym (U .cells)), n)
+    let n : size ≡ size' = T .held .all ∙ sym (U .held .all) in
+    (T .held .cells ∙ rw n (sym (U .held .cells)), n)

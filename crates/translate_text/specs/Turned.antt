@@ -46,5 +46,5 @@ turned (fault number place) = refusedText number place
 turned (job j) = turnedBy (j .condition) (jobTable j)
 
 -- the whole promise, for every text: what the text is translated into, and nothing else, stands in `out`, and `size` is how long it is
-abbrev pub Turned : List ℕ → List ℕ → ℕ → Type 0
-Turned text out size = Stands mostBytes (turned (readJob text)) out size
+pub record Turned (text out : List ℕ) (size : ℕ) : Type 0 where
+  pub held : Stands mostBytes (turned (readJob text)) out size

@@ -97,12 +97,8 @@ module _ (t : Table) where
 
     row-long : (s : ℕ) → length (row s) ≡ rowLength t s + halts (t .from) s
     row-long s =
-        omega (
-          arith,
-          length-append (cells f (rowStart t s) (rowLength t s)) (replicate (halts (t .from) s) (x s)),
-          length-cells f (rowStart t s) (rowLength t s),
-          length-replicate {A = ℕ} (halts (t .from) s) (x s),
-        )
+        omega (arith, length-append (cells f (rowStart t s) (rowLength t s)) (replicate (halts (t .from) s) (x s)), length-cells f (rowStart t s) (rowLength t s),
+        length-replicate {A = ℕ} (halts (t .from) s) (x s))
 
     next : (s : ℕ) → begin t (suc s) ≡ begin t s + length (row s)
     next s = omega (arith, begin-next s, row-long s)

@@ -184,13 +184,9 @@ module _ (t : Table) (proper : Proper t) where
 module _ (t : Table) (proper : Proper t) (k : ℕ) (few : source t k .edges * levels k ≤ mostEdges) where
   walk-forth : (s : ℕ) (es : List ℕ) (z : ℕ) → Walk t s es z → Walk (source t k) s (forths t k s es) z
   walk-forth s [] z w = w
-  walk-forth s (e ∷ es) z w = (
-    w .0,
-    (
-      step-forth t proper k e s (w .0) (w .1 .0),
-      subst (λ (r : ℕ). Walk (source t k) (w .0) (forths t k r es) z) (sym (step-next t proper e s (w .0) (w .1 .0))) (walk-forth (w .0) es z (w .1 .1)),
-    ),
-  )
+  walk-forth s (e ∷ es) z w =
+      (w .0, (step-forth t proper k e s (w .0) (w .1 .0),
+      subst (λ (r : ℕ). Walk (source t k) (w .0) (forths t k r es) z) (sym (step-next t proper e s (w .0) (w .1 .0))) (walk-forth (w .0) es z (w .1 .1))))
 
   walk-back : (s : ℕ) (gs : List ℕ) (z : ℕ) → Walk (source t k) s gs z → Walk t s (map (sourceEdge t k) gs) z
   walk-back s [] z w = w
@@ -204,11 +200,8 @@ module _ (t : Table) (proper : Proper t) (k : ℕ) (few : source t k .edges * le
   forths-back : (s : ℕ) (gs : List ℕ) (z : ℕ) → Walk (source t k) s gs z → forths t k s (map (sourceEdge t k) gs) ≡ gs
   forths-back s [] z w = refl
   forths-back s (g ∷ gs) z w =
-      rw (
-        forth-back t proper k few g s (w .0) (w .1 .0),
-        step-next t proper (sourceEdge t k g) s (w .0) (step-back t proper k few g s (w .0) (w .1 .0)),
-        forths-back (w .0) gs z (w .1 .1),
-      )
+      rw (forth-back t proper k few g s (w .0) (w .1 .0), step-next t proper (sourceEdge t k g) s (w .0) (step-back t proper k few g s (w .0) (w .1 .0)),
+      forths-back (w .0) gs z (w .1 .1))
 
   unders : (y : ℕ) (qs : List ℕ) (z : ℕ) → Walk (translated t k) y qs z → map (under t k) qs ≡ map (sourceEdge t k) (map (underEdge (source t k) k) qs)
   unders y [] z w = refl

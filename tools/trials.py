@@ -1,4 +1,4 @@
-"""What the trials of the launchers share (tools/try-judge, tools/try-hoa); not a command by itself."""
+"""What the trials of the launchers share (tools/try-judge, tools/try-hoa, tools/try-translate); not a command by itself."""
 
 import os
 import shutil

@@ -162,14 +162,14 @@ given rabin text =
 abbrev pub valuesGiven : List ℕ → ℕ → RunValues → Option RunText
 valuesGiven text at r =
     cond (r .found)
-    (some (record { pair = part at (r .pair-end) text; prefix = part (r .prefix) (r .prefix-end) text; cycle = part (r .cycle) (r .cycle-end) text }))
+    (some (record { pair = part at (r .pair) text; prefix = part (r .prefix) (r .middle) text; cycle = part (r .cycle) (r .last) text }))
     none
 
 pub record ValuesAt (text : List ℕ) (at : ℕ) (r : RunValues) : Type 0 where
   pub is : valuesGiven text at r ≡ runText (drop at text)
-  pub pair : r .found ≡ true → Ordered text at (r .pair-end)
-  pub prefix : r .found ≡ true → Ordered text (r .prefix) (r .prefix-end)
-  pub cycle : r .found ≡ true → Ordered text (r .cycle) (r .cycle-end)
+  pub pair : r .found ≡ true → Ordered text at (r .pair)
+  pub prefix : r .found ≡ true → Ordered text (r .prefix) (r .middle)
+  pub cycle : r .found ≡ true → Ordered text (r .cycle) (r .last)
 
 -- a run, and where its lists stand, by what the text says
 pub record RunAt (said : Option Said) (text : List ℕ) (pair a b d e : ℕ) : Type 0 where
@@ -227,6 +227,13 @@ abbrev pub WentSays : Table → Place → ℕ → Went → Type 0
 WentSays t p e (went.On q) = Goes t p e q
 WentSays t p e went.Stuck = (s' : ℕ) → Step t e (p .state) s' → ⊥
 
+-- of every table with these lists
+abbrev pub WaitSays : List ℕ → Place → Went → Type 0
+WaitSays from p r = (t : Table) → Lies t from (t .to) (t .marks) → Stands t p → WentSays t p waiting r
+
+abbrev pub GoSays : List ℕ → List ℕ → List ℕ → Place → ℕ → Went → Type 0
+GoSays from to marks p e r = (t : Table) → Lies t from to marks → Stands t p → WentSays t p e r
+
 -- the whole list walked, with the union of its marks; or where it breaks
 pub record Through (t : Table) (s : ℕ) (es : List ℕ) (state union count : ℕ) : Type 0 where
   pub walk : Walk t s es state
@@ -237,6 +244,10 @@ pub record Through (t : Table) (s : ℕ) (es : List ℕ) (state union count : �
 abbrev pub WalkedSays : Table → ℕ → List ℕ → Walked → Type 0
 WalkedSays t s es (walked.Through state union count) = Through t s es state union count
 WalkedSays t s es (walked.Broken i) = Breaks t s es i
+
+-- of every table with these lists, if the bytes are a list of edges
+abbrev pub WalkSays : Option (List ℕ) → ℕ → List ℕ → List ℕ → List ℕ → Walked → Type 0
+WalkSays said s from to marks r = (t : Table) (es : List ℕ) → Lies t from to marks → s < t .states → said ≡ some es → WalkedSays t s es r
 
 -- a run that a text names, on a table
 pub record Named : Type 0 where
@@ -257,9 +268,9 @@ pub record Closes (t : Table) (prefix cycle : List ℕ) (union : ℕ) : Type 0 w
   pub turns : 0 < length cycle
   pub marks : union ≡ marksOf t cycle
 
-abbrev pub TurnedSays : Table → List ℕ → List ℕ → Turned → Type 0
-TurnedSays t prefix cycle (turned.Closed union) = Closes t prefix cycle union
-TurnedSays t prefix cycle (turned.Faulty fault.Prefix i) = Breaks t (t .start) prefix i
-TurnedSays t prefix cycle (turned.Faulty fault.Empty i) = NoCycle t prefix cycle i
-TurnedSays t prefix cycle (turned.Faulty fault.Cycle i) = BadCycle t prefix cycle i
-TurnedSays t prefix cycle (turned.Faulty fault.Condition i) = ⊥
+abbrev pub TurnedSays : Named → Turned → Type 0
+TurnedSays g (turned.Closed union) = Closes (g .table) (g .prefix) (g .cycle) union
+TurnedSays g (turned.Faulty fault.Prefix i) = Breaks (g .table) (g .table .start) (g .prefix) i
+TurnedSays g (turned.Faulty fault.Empty i) = NoCycle (g .table) (g .prefix) (g .cycle) i
+TurnedSays g (turned.Faulty fault.Cycle i) = BadCycle (g .table) (g .prefix) (g .cycle) i
+TurnedSays g (turned.Faulty fault.Condition i) = ⊥

@@ -8,6 +8,7 @@ ghost use mathlib.Core.Path.{_≡_};
 ghost use mathlib.Core.Bool.{false};
 ghost use Prim.Native.Nat.{_≤_};
 ghost use lib.ListN.{length, drop};
+ghost use Rattle.job_text.specs.Value.{number};
 ghost use Rattle.job_text.specs.Given.{numberGiven};
 ghost use Rattle.job_text.specs.Text.{fields};
 ghost use Rattle.answer_check.specs.inner.{startsWith, ValueAt, step, steps, listGiven, isSome, pairGiven, ValuesAt, RunForm, refusedGiven, FormOf};
@@ -26,26 +27,27 @@ pub(crate) struct Value {
     pub next: usize,
 }
 
-// Whether a run's values are all there, and then where its pair ends and where its lists stand.
+// Whether a run's values are all there, and then where its pair ends, where its prefix begins and ends, and where its cycle does.
 pub(crate) struct RunValues {
     pub found: bool,
-    pub pair_end: usize,
+    pub pair: usize,
     pub prefix: usize,
-    pub prefix_end: usize,
+    pub middle: usize,
     pub cycle: usize,
-    pub cycle_end: usize,
+    pub last: usize,
 }
 
-// What an answer text is: no answer of ours, one that is no run, or a run with its pair and the places of its lists.
+// What an answer text is: no answer of ours, one that is no run, or a run with its pair and where its prefix
+// begins and ends, and its cycle.
 pub(crate) enum Form {
     Malformed,
     NoRun,
     Run {
         pair: u32,
         prefix: usize,
-        prefix_end: usize,
+        middle: usize,
         cycle: usize,
-        cycle_end: usize,
+        last: usize,
     },
 }
 
@@ -96,6 +98,26 @@ pub(crate) fn read_step(bytes: &[u8]) -> Number
     Number::Value(edge)
 }
 
+// Whether the bytes are a number.
+fn is_number(bytes: &[u8]) -> bool
+    ensures { λ r. ⌜ r ≡ isSome (number (now (bytes .entry))) ⌝ }
+{
+    match read_number(bytes) {
+        Number::Value(_) => true,
+        Number::Wrong => false,
+    }
+}
+
+// Whether the bytes are an edge.
+fn is_step(bytes: &[u8]) -> bool
+    ensures { λ r. ⌜ r ≡ isSome (step (now (bytes .entry))) ⌝ }
+{
+    match read_step(bytes) {
+        Number::Value(_) => true,
+        Number::Wrong => false,
+    }
+}
+
 // Whether the bytes are edges with commas between.
 fn all_steps(bytes: &[u8]) -> bool
     ensures { λ r. ⌜ r ≡ isSome (steps (fields (now (bytes .entry)))) ⌝ }
@@ -103,9 +125,9 @@ fn all_steps(bytes: &[u8]) -> bool
     let mut at = 0;
     while at <= bytes.len() {
         let end = find(bytes, at, COMMA);
-        let Number::Value(_) = read_step(&bytes[at..end]) else {
+        if !is_step(&bytes[at..end]) {
             return false;
-        };
+        }
         at = end + 1;
     }
     true
@@ -140,11 +162,11 @@ fn no_values() -> RunValues
 {
     RunValues {
         found: false,
-        pair_end: 0,
+        pair: 0,
         prefix: 0,
-        prefix_end: 0,
+        middle: 0,
         cycle: 0,
-        cycle_end: 0,
+        last: 0,
     }
 }
 
@@ -170,11 +192,11 @@ fn run_values(text: &[u8], at: usize) -> RunValues
     }
     RunValues {
         found: true,
-        pair_end: pair.end,
+        pair: pair.end,
         prefix: pair.next,
-        prefix_end: first.end,
+        middle: first.end,
         cycle: first.next,
-        cycle_end: second.end,
+        last: second.end,
     }
 }
 
@@ -187,21 +209,26 @@ fn read_run(text: &[u8], at: usize, rabin: bool) -> Form
     if !values.found {
         return Form::Malformed;
     }
-    let Number::Value(pair) = read_pair(&text[at..values.pair_end], rabin) else {
+    let end = values.pair;
+    let Number::Value(pair) = read_pair(&text[at..end], rabin) else {
         return Form::Malformed;
     };
-    if !is_list(&text[values.prefix..values.prefix_end]) {
+    let prefix = values.prefix;
+    let middle = values.middle;
+    if !is_list(&text[prefix..middle]) {
         return Form::Malformed;
     }
-    if !is_list(&text[values.cycle..values.cycle_end]) {
+    let cycle = values.cycle;
+    let last = values.last;
+    if !is_list(&text[cycle..last]) {
         return Form::Malformed;
     }
     Form::Run {
         pair,
-        prefix: values.prefix,
-        prefix_end: values.prefix_end,
-        cycle: values.cycle,
-        cycle_end: values.cycle_end,
+        prefix,
+        middle,
+        cycle,
+        last,
     }
 }
 
@@ -221,20 +248,23 @@ fn is_refusal(text: &[u8], at: usize) -> bool
     if place.next != text.len() {
         return false;
     }
-    let Number::Value(_) = read_number(&text[at..number.end]) else {
+    let end = number.end;
+    if !is_number(&text[at..end]) {
         return false;
-    };
-    let Number::Value(_) = read_number(&text[number.next..place.end]) else {
-        return false;
-    };
-    true
+    }
+    let next = number.next;
+    let last = place.end;
+    is_number(&text[next..last])
 }
 
 // What an answer text is.
 pub(crate) fn read_answer(text: &[u8], rabin: bool) -> Form
     ensures { λ r. ⌜ FormOf rabin (now (text .entry)) r ⌝ }
 {
-    if alike(text, b"verdict=empty\ncode=0\nplace=0\npair=-\nprefix=-\ncycle=-\n") {
+    if alike(
+        text,
+        b"verdict=empty\ncode=0\nplace=0\npair=-\nprefix=-\ncycle=-\n",
+    ) {
         return Form::NoRun;
     }
     if starts(text, 0, b"verdict=run\ncode=0\nplace=0\npair=") {

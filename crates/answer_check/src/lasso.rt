@@ -4,6 +4,7 @@ use crate::walk::Walked;
 use crate::walk::walk;
 ghost use mathlib.Core.Path.{_≡_};
 ghost use mathlib.Core.Option.{some};
+ghost use Rattle.table.specs.inner.Looks.{Even};
 ghost use Rattle.answer_check.specs.inner.{listGiven, Lies, Through, Named, KnotSays, TurnedSays};
 
 // A closed cycle with the marks on it, or the first fault and its position.
@@ -14,10 +15,7 @@ pub(crate) enum Turned {
 
 // What the cycle is, by where its walk from the knot arrives.
 fn closed(knot: u32, state: u32, union: u32, count: usize) -> Turned
-    ghost { Named }
-    requires { λ g. ⌜ KnotSays g knot ⌝ }
-    requires { λ g. ⌜ Through (g .table) knot (g .cycle) state union count ⌝ }
-    ensures { λ g r. ⌜ TurnedSays (g .table) (g .prefix) (g .cycle) r ⌝ }
+    ensures { λ r. ⌜ ((g : Named) → KnotSays g knot → Through (g .table) knot (g .cycle) state union count → TurnedSays g r) ⌝ }
 {
     if count == 0 {
         return Turned::Faulty {
@@ -36,11 +34,8 @@ fn closed(knot: u32, state: u32, union: u32, count: usize) -> Turned
 
 // The cycle, walked from the knot.
 fn turn(cycle: &[u8], knot: u32, from: &[u32], to: &[u32], marks: &[u32]) -> Turned
-    ghost { Named }
-    requires { λ g. ⌜ Lies (g .table) (now from) (now to) (now marks) ⌝ }
-    requires { λ g. ⌜ KnotSays g knot ⌝ }
-    requires { λ g. ⌜ listGiven (now cycle) ≡ some (g .cycle) ⌝ }
-    ensures { λ g r. ⌜ TurnedSays (g .table) (g .prefix) (g .cycle) r ⌝ }
+    requires { ⌜ Even (now from) (now to) (now marks) ⌝ }
+    ensures { λ r. ⌜ ((g : Named) → Lies (g .table) (now (from .entry)) (now (to .entry)) (now (marks .entry)) → KnotSays g knot → listGiven (now (cycle .entry)) ≡ some (g .cycle) → TurnedSays g r) ⌝ }
 {
     match walk(cycle, knot, from, to, marks) {
         Walked::Broken { position } => Turned::Faulty {
@@ -64,12 +59,8 @@ pub(crate) fn check_lasso(
     to: &[u32],
     marks: &[u32],
 ) -> Turned
-    ghost { Named }
-    requires { λ g. ⌜ Lies (g .table) (now from) (now to) (now marks) ⌝ }
-    requires { λ g. ⌜ g .table .start ≡ start ⌝ }
-    requires { λ g. ⌜ listGiven (now prefix) ≡ some (g .prefix) ⌝ }
-    requires { λ g. ⌜ listGiven (now cycle) ≡ some (g .cycle) ⌝ }
-    ensures { λ g r. ⌜ TurnedSays (g .table) (g .prefix) (g .cycle) r ⌝ }
+    requires { ⌜ Even (now from) (now to) (now marks) ⌝ }
+    ensures { λ r. ⌜ ((g : Named) → Lies (g .table) (now (from .entry)) (now (to .entry)) (now (marks .entry)) → g .table .start ≡ start → listGiven (now (prefix .entry)) ≡ some (g .prefix) → listGiven (now (cycle .entry)) ≡ some (g .cycle) → TurnedSays g r) ⌝ }
 {
     match walk(prefix, start, from, to, marks) {
         Walked::Broken { position } => Turned::Faulty {

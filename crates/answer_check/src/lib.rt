@@ -6,12 +6,12 @@ mod form;
 mod lasso;
 mod walk;
 
-use answer_text::is_rabin;
 use crate::condition::meets;
 use crate::form::Form;
 use crate::form::read_answer;
 use crate::lasso::Turned;
 use crate::lasso::check_lasso;
+use answer_text::is_rabin;
 use job_text::reader::read;
 use table::Acceptance;
 use table::Finding;
@@ -19,6 +19,7 @@ ghost use mathlib.Core.Path.{_≡_};
 ghost use mathlib.Core.Bool.{false};
 ghost use Rattle.table.specs.Table.{Table, lent};
 ghost use Rattle.table.specs.Refusal.{refusal, wrongCondition};
+ghost use Rattle.table.specs.inner.Looks.{Even};
 ghost use Rattle.answer_check.specs.Fault.{Judged};
 ghost use Rattle.answer_check.specs.Checking.{Told, ByCause, Checks};
 ghost use Rattle.answer_check.specs.inner.{Named, Lies, TurnedSays};
@@ -40,10 +41,8 @@ pub enum Checked {
 
 // What becomes of a run, by its lasso and the condition.
 fn conclude(turned: Turned, condition: Acceptance, needs: [u32; 8], pair: u32) -> Checked
-    ghost { Named }
-    requires { λ g. ⌜ TurnedSays (g .table) (g .prefix) (g .cycle) turned ⌝ }
-    requires { λ g. ⌜ wrongCondition condition needs ≡ false ⌝ }
-    ensures { λ g r. ⌜ Judged (g .table) condition needs pair (g .prefix) (g .cycle) r ⌝ }
+    requires { ⌜ wrongCondition condition needs ≡ false ⌝ }
+    ensures { λ r. ⌜ ((g : Named) → TurnedSays g turned → Judged (g .table) condition needs pair (g .prefix) (g .cycle) r) ⌝ }
 {
     match turned {
         Turned::Faulty { fault, position } => Checked::Rejected { fault, position },
@@ -69,11 +68,9 @@ fn check_sound(
     condition: Acceptance,
     needs: [u32; 8],
 ) -> Checked
-    ghost { Table }
-    requires { λ t. ⌜ Lies t (now from) (now to) (now marks) ⌝ }
-    requires { λ t. ⌜ t .start ≡ start ⌝ }
-    requires { λ t. ⌜ wrongCondition condition needs ≡ false ⌝ }
-    ensures { λ t r. ⌜ Told t condition needs (now (answer .entry)) r ⌝ }
+    requires { ⌜ Even (now from) (now to) (now marks) ⌝ }
+    requires { ⌜ wrongCondition condition needs ≡ false ⌝ }
+    ensures { λ r. ⌜ ((t : Table) → Lies t (now (from .entry)) (now (to .entry)) (now (marks .entry)) → t .start ≡ start → Told t condition needs (now (answer .entry)) r) ⌝ }
 {
     match read_answer(answer, is_rabin(condition)) {
         Form::Malformed => Checked::Refused {
@@ -87,11 +84,18 @@ fn check_sound(
         Form::Run {
             pair,
             prefix,
-            prefix_end,
+            middle,
             cycle,
-            cycle_end,
+            last,
         } => {
-            let turned = check_lasso(&answer[prefix..prefix_end], &answer[cycle..cycle_end], start, from, to, marks);
+            let turned = check_lasso(
+                &answer[prefix..middle],
+                &answer[cycle..last],
+                start,
+                from,
+                to,
+                marks,
+            );
             conclude(turned, condition, needs, pair)
         }
     }

@@ -6,12 +6,10 @@ use job_text::part::alike;
 use job_text::part::find;
 use job_text::value::Number;
 ghost use mathlib.Core.Path.{_≡_};
-ghost use mathlib.Core.List.{List};
-ghost use mathlib.Core.Option.{some};
-ghost use Prim.Native.Nat.{ℕ, _<_};
-ghost use Rattle.table.specs.Table.{Table, waiting};
+ghost use Rattle.table.specs.Table.{waiting};
+ghost use Rattle.table.specs.inner.Looks.{Even};
 ghost use Rattle.job_text.specs.Text.{fields};
-ghost use Rattle.answer_check.specs.inner.{steps, listGiven, LeftBy, Lies, Stands, WentSays, WalkedSays};
+ghost use Rattle.answer_check.specs.inner.{steps, listGiven, LeftBy, WaitSays, GoSays, WalkSays};
 
 const COMMA: u8 = 44;
 
@@ -56,10 +54,7 @@ fn leaves(from: &[u32], state: u32) -> bool
 
 // A waiting edge.
 fn wait(place: Place, from: &[u32]) -> Went
-    ghost { Table }
-    requires { λ t. ⌜ Lies t (now from) (t .to) (t .marks) ⌝ }
-    requires { λ t. ⌜ Stands t place ⌝ }
-    ensures { λ t r. ⌜ WentSays t place waiting r ⌝ }
+    ensures { λ r. ⌜ WaitSays (now (from .entry)) place r ⌝ }
 {
     let state = place.state;
     let union = place.union;
@@ -82,10 +77,9 @@ fn wait(place: Place, from: &[u32]) -> Went
 
 // An edge of the table.
 fn take_edge(place: Place, edge: u32, from: &[u32], to: &[u32], marks: &[u32]) -> Went
-    ghost { Table }
-    requires { λ t. ⌜ Lies t (now from) (now to) (now marks) ⌝ }
-    requires { λ t. ⌜ (edge ≡ waiting → ⊥) ⌝ }
-    ensures { λ t r. ⌜ WentSays t place edge r ⌝ }
+    requires { ⌜ Even (now from) (now to) (now marks) ⌝ }
+    requires { ⌜ (edge ≡ waiting → ⊥) ⌝ }
+    ensures { λ r. ⌜ GoSays (now (from .entry)) (now (to .entry)) (now (marks .entry)) place edge r ⌝ }
 {
     let e = edge as usize;
     if from.len() <= e {
@@ -103,10 +97,8 @@ fn take_edge(place: Place, edge: u32, from: &[u32], to: &[u32], marks: &[u32]) -
 
 // One edge further.
 fn go(place: Place, edge: u32, from: &[u32], to: &[u32], marks: &[u32]) -> Went
-    ghost { Table }
-    requires { λ t. ⌜ Lies t (now from) (now to) (now marks) ⌝ }
-    requires { λ t. ⌜ Stands t place ⌝ }
-    ensures { λ t r. ⌜ WentSays t place edge r ⌝ }
+    requires { ⌜ Even (now from) (now to) (now marks) ⌝ }
+    ensures { λ r. ⌜ GoSays (now (from .entry)) (now (to .entry)) (now (marks .entry)) place edge r ⌝ }
 {
     if edge == WAITING {
         return wait(place, from);
@@ -116,11 +108,8 @@ fn go(place: Place, edge: u32, from: &[u32], to: &[u32], marks: &[u32]) -> Went
 
 // A list of at least one edge, walked from a state.
 fn walk_edges(list: &[u8], begin: u32, from: &[u32], to: &[u32], marks: &[u32]) -> Walked
-    ghost { (Table × List ℕ) }
-    requires { λ g. ⌜ Lies (g .0) (now from) (now to) (now marks) ⌝ }
-    requires { λ g. ⌜ begin < g .0 .states ⌝ }
-    requires { λ g. ⌜ steps (fields (now list)) ≡ some (g .1) ⌝ }
-    ensures { λ g r. ⌜ WalkedSays (g .0) begin (g .1) r ⌝ }
+    requires { ⌜ Even (now from) (now to) (now marks) ⌝ }
+    ensures { λ r. ⌜ WalkSays (steps (fields (now (list .entry)))) begin (now (from .entry)) (now (to .entry)) (now (marks .entry)) r ⌝ }
 {
     let mut place = Place {
         state: begin,
@@ -151,11 +140,8 @@ fn walk_edges(list: &[u8], begin: u32, from: &[u32], to: &[u32], marks: &[u32]) 
 
 // A list, walked from a state.
 pub(crate) fn walk(list: &[u8], begin: u32, from: &[u32], to: &[u32], marks: &[u32]) -> Walked
-    ghost { (Table × List ℕ) }
-    requires { λ g. ⌜ Lies (g .0) (now from) (now to) (now marks) ⌝ }
-    requires { λ g. ⌜ begin < g .0 .states ⌝ }
-    requires { λ g. ⌜ listGiven (now list) ≡ some (g .1) ⌝ }
-    ensures { λ g r. ⌜ WalkedSays (g .0) begin (g .1) r ⌝ }
+    requires { ⌜ Even (now from) (now to) (now marks) ⌝ }
+    ensures { λ r. ⌜ WalkSays (listGiven (now (list .entry))) begin (now (from .entry)) (now (to .entry)) (now (marks .entry)) r ⌝ }
 {
     if alike(list, b"-") {
         return Walked::Through {

@@ -19,6 +19,7 @@ use Rattle.job_text.specs.Text.{newline, comma, fields, same, ahead}
 use Rattle.job_text.specs.Value.{andThen, dash, number}
 use Rattle.answer_text.specs.Printed.{stop, shown, verdict=, code=, place=, pair=, prefix=, cycle=, verdictWord, answerText}
 use Rattle.answer_check.specs.declared.form.Value.{Value}
+use Rattle.answer_check.specs.declared.form.RunValues.{RunValues}
 use Rattle.answer_check.specs.declared.form.Form.{Form}
 use Rattle.answer_check.specs.declared.form.Form.the-variants as form
 use Rattle.answer_check.specs.declared.walk.Place.{Place}
@@ -50,15 +51,19 @@ valueThen word xs =
     (some (record { value = take (ahead newline xs) xs; rest = drop (length word) (drop (ahead newline xs) xs) }))
     none
 
+-- one place behind another, within the text
+pub record Ordered (text : List ℕ) (a b : ℕ) : Type 0 where
+  pub low : a ≤ b
+  pub high : b ≤ length text
+
 -- what is found of a value at a place of the text
 abbrev pub cutGiven : List ℕ → ℕ → Value → Option Cut
 cutGiven text at r = cond (r .found) (some (record { value = part at (r .end) text; rest = drop (r .next) text })) none
 
 pub record ValueAt (text : List ℕ) (at : ℕ) (word : List ℕ) (r : Value) : Type 0 where
   pub is : cutGiven text at r ≡ valueThen word (drop at text)
-  pub ordered : r .found ≡ true → at ≤ r .end
-  pub ends : r .found ≡ true → r .end ≤ length text
-  pub next-ends : r .found ≡ true → r .next ≤ length text
+  pub there : r .found ≡ true → Ordered text at (r .end)
+  pub next-there : r .found ≡ true → r .next ≤ length text
 
 -- ---- values
 
@@ -110,16 +115,29 @@ refusedTail = newline ∷ ((shown pair= dash ++ shown prefix= dash) ++ shown cyc
 abbrev pub over : {A : Type 0} → List ℕ → Option A → Option A
 over rest a = cond (eqb (length rest) 0) a none
 
-unfoldable pub runGiven : Bool → List ℕ → Option Said
-runGiven rabin xs =
+-- the values of a run
+pub record RunText : Type 0 where
+  pub pair : List ℕ
+  pub prefix : List ℕ
+  pub cycle : List ℕ
+
+-- from its pair on
+unfoldable pub runText : List ℕ → Option RunText
+runText xs =
     andThen (valueThen thenPrefix xs) (λ a.
     andThen (valueThen thenCycle (a .rest)) (λ b.
     andThen (valueThen (newline ∷ []) (b .rest)) (λ c.
-    over (c .rest)
-    (andThen (pairGiven rabin (a .value)) (λ pair.
-    andThen (listGiven (b .value)) (λ prefix.
-    andThen (listGiven (c .value)) (λ cycle.
-    some (run pair prefix cycle))))))))
+    over (c .rest) (some (record { pair = a .value; prefix = b .value; cycle = c .value })))))
+
+abbrev pub runOf : Bool → RunText → Option Said
+runOf rabin v =
+    andThen (pairGiven rabin (v .pair)) (λ pair.
+    andThen (listGiven (v .prefix)) (λ prefix.
+    andThen (listGiven (v .cycle)) (λ cycle.
+    some (run pair prefix cycle))))
+
+abbrev pub runGiven : Bool → List ℕ → Option Said
+runGiven rabin xs = andThen (runText xs) (runOf rabin)
 
 unfoldable pub refusedGiven : List ℕ → Option Said
 refusedGiven xs =
@@ -140,27 +158,45 @@ given rabin text =
 
 -- ---- what the reader gives
 
--- a run, and where its lists stand
-pub record RunAt (rabin : Bool) (text : List ℕ) (pair a b d e : ℕ) : Type 0 where
+-- what is found of a run's values at a place of the text
+abbrev pub valuesGiven : List ℕ → ℕ → RunValues → Option RunText
+valuesGiven text at r =
+    cond (r .found)
+    (some (record { pair = part at (r .pair) text; prefix = part (r .prefix) (r .middle) text; cycle = part (r .cycle) (r .last) text }))
+    none
+
+pub record ValuesAt (text : List ℕ) (at : ℕ) (r : RunValues) : Type 0 where
+  pub is : valuesGiven text at r ≡ runText (drop at text)
+  pub pair : r .found ≡ true → Ordered text at (r .pair)
+  pub prefix : r .found ≡ true → Ordered text (r .prefix) (r .middle)
+  pub cycle : r .found ≡ true → Ordered text (r .cycle) (r .last)
+
+-- a run, and where its lists stand, by what the text says
+pub record RunAt (said : Option Said) (text : List ℕ) (pair a b d e : ℕ) : Type 0 where
   pub prefix : List ℕ
   pub cycle : List ℕ
-  pub says : given rabin text ≡ some (run pair prefix cycle)
+  pub says : said ≡ some (run pair prefix cycle)
   pub prefix-listed : listGiven (part a b text) ≡ some prefix
   pub cycle-listed : listGiven (part d e text) ≡ some cycle
-  pub prefix-ordered : a ≤ b
-  pub prefix-ends : b ≤ length text
-  pub cycle-ordered : d ≤ e
-  pub cycle-ends : e ≤ length text
+  pub prefix-there : Ordered text a b
+  pub cycle-there : Ordered text d e
 
-pub record OtherAt (rabin : Bool) (text : List ℕ) : Type 0 where
-  pub said : Said
-  pub says : given rabin text ≡ some said
-  pub other : (pair : ℕ) (prefix cycle : List ℕ) → said ≡ run pair prefix cycle → ⊥
+-- an answer that is no run
+pub record OtherSaid (said : Option Said) : Type 0 where
+  pub answer : Said
+  pub says : said ≡ some answer
+  pub other : (pair : ℕ) (prefix cycle : List ℕ) → answer ≡ run pair prefix cycle → ⊥
+
+abbrev pub FormSays : Option Said → List ℕ → Form → Type 0
+FormSays said text form.Malformed = said ≡ none
+FormSays said text form.NoRun = OtherSaid said
+FormSays said text (form.Run pair a b d e) = RunAt said text pair a b d e
+
+abbrev pub RunForm : Bool → List ℕ → ℕ → Form → Type 0
+RunForm rabin text at f = FormSays (runGiven rabin (drop at text)) text f
 
 abbrev pub FormOf : Bool → List ℕ → Form → Type 0
-FormOf rabin text form.Malformed = given rabin text ≡ none
-FormOf rabin text form.NoRun = OtherAt rabin text
-FormOf rabin text (form.Run pair a b d e) = RunAt rabin text pair a b d e
+FormOf rabin text f = FormSays (given rabin text) text f
 
 -- ---- the walk
 
@@ -176,6 +212,11 @@ pub record Stands (t : Table) (p : Place) : Type 0 where
   pub state : p .state < t .states
   pub waits : p .waits ≡ true → Stop t (p .state)
 
+-- some edge leaves the state; or none does
+abbrev pub LeftBy : List ℕ → ℕ → Bool → Type 0
+LeftBy from s true = (e : ℕ) × ((e < length from) × (getD from e 0 ≡ s))
+LeftBy from s false = (e : ℕ) → e < length from → getD from e 0 ≡ s → ⊥
+
 -- one edge further, with its marks; or there is no such step
 pub record Goes (t : Table) (p : Place) (e : ℕ) (q : Place) : Type 0 where
   pub stands : Stands t q
@@ -186,14 +227,38 @@ abbrev pub WentSays : Table → Place → ℕ → Went → Type 0
 WentSays t p e (went.On q) = Goes t p e q
 WentSays t p e went.Stuck = (s' : ℕ) → Step t e (p .state) s' → ⊥
 
+-- of every table with these lists
+abbrev pub WaitSays : List ℕ → Place → Went → Type 0
+WaitSays from p r = (t : Table) → Lies t from (t .to) (t .marks) → Stands t p → WentSays t p waiting r
+
+abbrev pub GoSays : List ℕ → List ℕ → List ℕ → Place → ℕ → Went → Type 0
+GoSays from to marks p e r = (t : Table) → Lies t from to marks → Stands t p → WentSays t p e r
+
 -- the whole list walked, with the union of its marks; or where it breaks
-pub record Through (t : Table) (s : ℕ) (es : List ℕ) (state union : ℕ) : Type 0 where
+pub record Through (t : Table) (s : ℕ) (es : List ℕ) (state union count : ℕ) : Type 0 where
   pub walk : Walk t s es state
+  pub below : state < t .states
   pub marks : union ≡ marksOf t es
+  pub counted : count ≡ length es
 
 abbrev pub WalkedSays : Table → ℕ → List ℕ → Walked → Type 0
-WalkedSays t s es (walked.Through state union) = Through t s es state union
+WalkedSays t s es (walked.Through state union count) = Through t s es state union count
 WalkedSays t s es (walked.Broken i) = Breaks t s es i
+
+-- of every table with these lists, if the bytes are a list of edges
+abbrev pub WalkSays : Option (List ℕ) → ℕ → List ℕ → List ℕ → List ℕ → Walked → Type 0
+WalkSays said s from to marks r = (t : Table) (es : List ℕ) → Lies t from to marks → s < t .states → said ≡ some es → WalkedSays t s es r
+
+-- a run that a text names, on a table
+pub record Named : Type 0 where
+  pub table : Table
+  pub prefix : List ℕ
+  pub cycle : List ℕ
+
+-- its prefix ends at the knot
+pub record KnotSays (g : Named) (knot : ℕ) : Type 0 where
+  pub leads : Walk (g .table) (g .table .start) (g .prefix) knot
+  pub below : knot < g .table .states
 
 -- a lasso with the union of its cycle's marks; or its first fault
 pub record Closes (t : Table) (prefix cycle : List ℕ) (union : ℕ) : Type 0 where
@@ -203,9 +268,9 @@ pub record Closes (t : Table) (prefix cycle : List ℕ) (union : ℕ) : Type 0 w
   pub turns : 0 < length cycle
   pub marks : union ≡ marksOf t cycle
 
-abbrev pub TurnedSays : Table → List ℕ → List ℕ → Turned → Type 0
-TurnedSays t prefix cycle (turned.Closed union) = Closes t prefix cycle union
-TurnedSays t prefix cycle (turned.Faulty fault.Prefix i) = Breaks t (t .start) prefix i
-TurnedSays t prefix cycle (turned.Faulty fault.Empty i) = NoCycle t prefix cycle i
-TurnedSays t prefix cycle (turned.Faulty fault.Cycle i) = BadCycle t prefix cycle i
-TurnedSays t prefix cycle (turned.Faulty fault.Condition i) = ⊥
+abbrev pub TurnedSays : Named → Turned → Type 0
+TurnedSays g (turned.Closed union) = Closes (g .table) (g .prefix) (g .cycle) union
+TurnedSays g (turned.Faulty fault.Prefix i) = Breaks (g .table) (g .table .start) (g .prefix) i
+TurnedSays g (turned.Faulty fault.Empty i) = NoCycle (g .table) (g .prefix) (g .cycle) i
+TurnedSays g (turned.Faulty fault.Cycle i) = BadCycle (g .table) (g .prefix) (g .cycle) i
+TurnedSays g (turned.Faulty fault.Condition i) = ⊥

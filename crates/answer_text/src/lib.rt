@@ -93,7 +93,8 @@ fn put_verdict(out: &mut [u8], verdict: Verdict) -> usize
     }
 }
 
-fn is_rabin(condition: Acceptance) -> bool
+// Whether the condition is of the kind rabin.
+pub fn is_rabin(condition: Acceptance) -> bool
     ensures { λ r. ⌜ r ≡ isRabin condition ⌝ }
 {
     match condition {

@@ -174,7 +174,9 @@ module _ (t : Table) (k : ℕ) (lift : Liftable t k) where
 
   under-over : (e s s' j : ℕ) → j < levels k → Step t e s s' → underEdge t k (overEdge t k j e) ≡ e
   under-over e s s' j l =
-      ⊎-elim (λ (p : Edge t e s s'). rw (over-edge e j (p .listed)) (under-edge (place t k j e) (place-most t proper k e j (p .listed) l) ∙ edge-place t proper k e j (p .listed) l))
+      ⊎-elim
+      (λ (p : Edge t e s s').
+      rw (over-edge e j (p .listed)) (under-edge (place t k j e) (place-most t proper k e j (p .listed) l) ∙ edge-place t proper k e j (p .listed) l))
       (λ (p : Waits t e s s'). under-waiting (overEdge t k j e) (over-waiting e j (p .number)) ∙ sym (p .number))
 
   pub unders-over : (s j : ℕ) (es : List ℕ) (z : ℕ) → j < levels k → Walk t s es z → map (underEdge t k) (over t k j es) ≡ es

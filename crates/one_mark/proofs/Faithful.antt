@@ -16,10 +16,11 @@ use Rattle.one_mark.specs.Outcome.{Outcome, answer, numberOf, placeOf, s
 use Rattle.one_mark.specs.Faithful.{Lifts, Positions, Stops, Faithful}
 use Rattle.one_mark.proofs.Accepted.{lent-again, lifted-sound}
 use Rattle.one_mark.proofs.Answers.{fit, granted, RefusedRow, refused-at}
-use Rattle.one_mark.proofs.Looped.{stop-empty}
+use Rattle.one_mark.proofs.Lassos.{one-over, one-under, lasso-down, lasso-up}
 use Rattle.one_mark.proofs.Order.{whole-length}
 use Rattle.one_mark.proofs.Position.{stands, cell-at, place-most, level-place, edge-place}
-use Rattle.one_mark.proofs.Sources.{liftable, under-kept, under-stop, under-left, under-waiting, copies, stop-some, one-over, one-under, lasso-down, lasso-up}
+use Rattle.one_mark.proofs.Sources.{liftable, under-kept, under-stop, under-other, under-waiting, copies, stop-some}
+use Rattle.one_mark.proofs.StopStates.{stop-empty}
 
 -- ---- two results that the contract allows for one input are equal
 
@@ -62,7 +63,7 @@ positions t proper k few =
       lifts = lifts (source t k) (liftable t proper k few .proper) k;
       under-edge = λ q some l. under-kept t proper k few q some l;
       under-stop = λ g s none l e p. under-stop t proper k few g s none l e p;
-      under-other = λ g s none l e p. under-left t proper k few g s none l e p;
+      under-other = λ g s none l e p. under-other t proper k few g s none l e p;
       under-waiting = under-waiting t proper k;
     }
 
@@ -87,7 +88,7 @@ faithful n start from to marks k a b c none =
     record {
       table = lifted-sound (source t k) (liftable t proper k (g .few-edges) .proper) k (g .few) (g .few-edges);
       positions = positions t proper k (g .few-edges);
-      stops = stop-states t proper k (g .few-edges);
+      stop-states = stop-states t proper k (g .few-edges);
       one-over = one-over t proper k (g .few-edges);
       one-under = one-under t proper k (g .few-edges);
       lasso-down = lasso-down t proper k (g .few-edges);

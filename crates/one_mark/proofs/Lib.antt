@@ -4,6 +4,7 @@ pub mod Climbs
 pub mod Correspond
 pub mod Faithful
 pub mod Laps
+pub mod Lassos
 pub mod Lists
 pub mod Looped
 pub mod Numbers
@@ -14,5 +15,7 @@ pub mod Position
 pub mod RowParts
 pub mod Shifts
 pub mod Sources
+pub mod StopStates
 pub mod Turns
+pub mod Waiting
 pub mod Wrote

@@ -2,7 +2,7 @@
 use mathlib.Core.Path.{_≡_, refl, sym, ap, _∙_}
 use mathlib.Core.List.{List, [], _∷_, _++_, append-assoc, append-nil}
 use Prim.Native.Nat.{ℕ, zero, suc, _+_, _-_, _*_, _≤_, _<_}
-use native.Mathlib.Nat.{add-zero, zero-add, suc-add}
+use native.Mathlib.Nat.{add-zero, zero-add}
 use native.Mathlib.Numerals.{add-one}
 use native.Mathlib.Omega.{arith}
 use lib.ListN.{length, getD, set, replicate, length-append, List·getD-append}
@@ -44,12 +44,6 @@ each-more f a zero = append-nil (f a) ∙ ap f (sym (add-zero a))
 each-more f a (suc n) =
     let e : suc a + n ≡ a + suc n = omega arith in
     rw append-assoc (ap (λ xs. f a ++ xs) (rw e at (each-more f (suc a) n)))
-
-pub each-split : (f : ℕ → List ℕ) (a n d : ℕ) → each f a (n + d) ≡ each f a n ++ each f (a + n) d
-each-split f a zero d = rw (zero-add d, add-zero a)
-each-split f a (suc n) d =
-    let e : suc a + n ≡ a + suc n = omega arith in
-    rw (suc-add n d, append-assoc) (ap (λ xs. f a ++ xs) (rw e at (each-split f (suc a) n d)))
 
 pub each-same : (f g : ℕ → List ℕ) (a n : ℕ) → ((i : ℕ) → a ≤ i → i < a + n → f i ≡ g i) → each f a n ≡ each g a n
 each-same f g a zero h = refl

@@ -1,12 +1,12 @@
 -- A row handed on as parts of the tables, or with k = 0 the loop of a stop state, gives the row's cells of the definition, and rows are written one
 -- behind the other. Assumes nothing.
 use mathlib.Core.Path.{_≡_, refl, sym, ap, _∙_}
-use mathlib.Core.List.{List, [], _∷_, _++_, append-nil}
+use mathlib.Core.List.{List, [], _∷_, append-nil}
 use Prim.Native.Nat.{ℕ, zero, suc, _+_, _-_, _*_, _≤_, _<_}
 use native.Mathlib.Nat.{zero-add}
 use native.Mathlib.Numerals.{add-one}
 use native.Mathlib.Omega.{arith}
-use lib.ListN.{length, getD, drop, replicate, length-drop}
+use lib.ListN.{length, getD, drop, length-drop}
 use lib.Seq.{take-all}
 use Rattle.marks.proofs.Cases.{same}
 use Rattle.table.specs.Table.{Table, borne}
@@ -19,7 +19,7 @@ use Rattle.one_mark.specs.Source.{stops, source}
 use Rattle.one_mark.specs.Translated.{liftedFrom, liftedTo, liftedMarks}
 use Rattle.one_mark.specs.Writing.{Wrote, Room, RowAsked, orLoop, RowWritten, StateWritten, StatesWritten}
 use Rattle.one_mark.proofs.Lists.{cells-same, each-same, no-cells}
-use Rattle.one_mark.proofs.Looped.{begin, own-cell, loop-cell, looped-start, looped-long, source-length}
+use Rattle.one_mark.proofs.Looped.{begin, own-cell, loop-cell, looped-start, looped-long}
 use Rattle.one_mark.proofs.Numbers.{rows-fit}
 use Rattle.one_mark.proofs.Order.{sorted, front-zero, front-up, front-most, begins-front, order-length}
 use Rattle.one_mark.proofs.Wrote.{Kept, wrote-run}

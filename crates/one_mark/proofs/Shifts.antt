@@ -1,4 +1,5 @@
--- The fourteen shift cases: cases 1 to 13 are proved with the crate table, and the translation of table A computes. Assumes nothing.
+-- The fourteen shift cases: cases 1 to 13 are proved with the crate table, and the translation of table A computes, as does that of a table with stop
+-- states. Assumes nothing.
 use mathlib.Core.Path.{refl}
 use Rattle.table.proofs.Shifts.{shift-cases}
 use Rattle.one_mark.specs.Climb.{reached, landing, bearing}

@@ -41,17 +41,20 @@ pub record Positions (t : Table) (k : ℕ) : Type 0 where
   -- a waiting edge lies over the waiting edge
   pub under-waiting : under t k waiting ≡ waiting
 
--- the stop states are those with an empty row; k above 0: their copies, and no others, are the stop states of the translated table; k = 0: it has none
+-- the stop states
 pub record Stops (t : Table) (k : ℕ) : Type 0 where
+  -- they are the states with an empty row
   pub empty : (s : ℕ) → s < t .states → Stop t s ↔ (rowLength t s ≡ 0)
+  -- k above 0: the copies of a stop state, and of no other, are stop states of the translated table
   pub copies : (s j : ℕ) → 0 < k → j < levels k → Stop t s ↔ Stop (translated t k) (number k s j)
+  -- k = 0: it has none
   pub none : (y : ℕ) → k ≡ 0 → Stop (translated t k) y → ⊥
 
 pub record Faithful (t : Table) (k : ℕ) : Type 0 where
   -- the output is itself a table that rows 1 to 7 accept as Büchi 1
   pub table : refusal (translated t k) (Buchi 1) [] ≡ Sound
   pub positions : Positions t k
-  pub stops : Stops t k
+  pub stop-states : Stops t k
   -- each walk from the start lies under exactly one translated walk of equal length from the new start, and each translated walk over exactly one
   pub one-over : (es : List ℕ) (z : ℕ) → Walk t (t .start) es z → OneOver t k es
   pub one-under : (qs : List ℕ) (z : ℕ) → Walk (translated t k) (translated t k .start) qs z → OneUnder t k qs

@@ -1,5 +1,5 @@
--- All fourteen shift cases (docs/RULES.md, "Shift cases"), under a single statement: cases 1 to 13 with the crate table, and the translation.
--- proofs/Shifts.antt proves it. Assumes nothing.
+-- All fourteen shift cases (docs/RULES.md, "Shift cases"), under a single statement: cases 1 to 13 with the crate table, and the translation. Then a
+-- table with stop states (docs/RULES.md, "One-mark translation"). proofs/Shifts.antt proves both. Assumes nothing.
 use mathlib.Core.Path.{_≡_}
 use mathlib.Core.List.{[], _∷_}
 use Rattle.table.specs.Table.{Table, lent}

@@ -7,7 +7,7 @@ use lib.ListN.{replicate}
 use Rattle.table.specs.Table.{Table, waiting, borne}
 use Rattle.one_mark.specs.Place.{front, rowStart, rowLength, cells, each, leaves, arrives}
 
--- 1 if s is a stop state, 0 if an edge leaves it (`Looped.stop-empty`, in proofs/: the stop states are those with an empty row)
+-- 1 if s is a stop state, 0 if an edge leaves it (`StopStates.stop-empty`, in proofs/: the stop states are those with an empty row)
 abbrev pub halts : List ℕ → ℕ → ℕ
 halts from s = 1 - (front (suc s) from - front s from)
 
@@ -20,7 +20,7 @@ stops from (suc s) = stops from s + halts from s
 abbrev pub rowOr : Table → (ℕ → ℕ) → ℕ → ℕ → List ℕ
 rowOr t f x s = cells f (rowStart t s) (rowLength t s) ++ replicate (halts (t .from) s) x
 
--- m + z edges, z the number of all stop states: the edges of t, and a loop s>s{} at each stop state s
+-- m + z edges, z the number of all stop states: the edges of t, and a loop s>s{} at each stop state s, which is marked like every edge with k = 0
 abbrev pub looped : Table → Table
 looped t =
     record {

@@ -1,5 +1,6 @@
 // The one-mark translation (docs/RULES.md, "One-mark translation"): a table with k marks, read as Büchi k, becomes one with one mark, read as
-// Büchi 1, whose accepted lassos lie over those of the first. Relies on `table` for rows 1 to 7 and for the rows of a table.
+// Büchi 1, whose accepted lassos lie over those of the first. With k = 0 each stop state gets a marked loop; else its copies wait as it does.
+// Relies on `table` for rows 1 to 7 and for the rows of a table.
 mod lift;
 mod stops;
 

@@ -42,8 +42,8 @@ pub(crate) fn source_count(n: u32, from: &[u32], k: u32) -> usize
     requires { ⌜ Rising (now from) ⌝ }
     ensures { λ r. ⌜ r ≡ source (lent n 0 (now (from .entry)) [] []) k .edges ⌝ }
 {
-    if k != 0 {
-        return from.len();
+    if k == 0 {
+        return from.len() + stop_count(n, from);
     }
-    from.len() + stop_count(n, from)
+    from.len()
 }

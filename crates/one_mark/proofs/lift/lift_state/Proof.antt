@@ -2,7 +2,6 @@
 -- stop state (`loop-written`). Assumes nothing.
 use mathlib.Core.Path.{_≡_, sym, _∙_}
 use Prim.Native.Nat.{_+_, _-_}
-use native.Mathlib.Omega.{arith}
 use lib.ListN.{length}
 use borrow.Author.Needs.{needs}
 use Rattle.one_mark.proofs.RowParts.{no-loop, loop-long, loop-written}

@@ -7,7 +7,7 @@ use borrow.Author.Needs.{needs}
 use Rattle.table.specs.Row.{Row}
 use Rattle.table.proofs.Rows.{Begins, first-begins}
 use Rattle.one_mark.specs.Source.{stops}
-use Rattle.one_mark.proofs.Looped.{stops-most}
+use Rattle.one_mark.proofs.StopStates.{stops-most}
 use Rattle.one_mark.proofs.RowParts.{run-row, run-next, stops-next}
 use Rattle.one_mark.proofs.stops.stop_count.Statement.{statement}
 use Rattle.one_mark.proofs.stops.stop_count.Tie as tie

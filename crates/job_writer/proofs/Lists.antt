@@ -1,11 +1,11 @@
 -- The lists of a table that is not refused, and the writer's limits. Assumes nothing.
 use mathlib.Core.Path.{_≡_, ap, _∙_}
-use mathlib.Core.Bool.{Bool, true, false, _||_}
+use mathlib.Core.Bool.{Bool, false, _||_}
 use mathlib.Core.List.{List, []}
-use Prim.Native.Nat.{ℕ, _≤_, _<_}
+use Prim.Native.Nat.{ℕ, _≤_}
 use lib.Dec.{ltb}
 use lib.ListN.{length}
-use borrow.Author.Tests.{lt-ltb, le-ltb, ltb-false}
+use borrow.Author.Tests.{le-ltb, ltb-false}
 use Rattle.table.specs.declared.Acceptance.the-variants.{Buchi}
 use Rattle.table.specs.declared.Finding.the-variants.{Sound}
 use Rattle.table.specs.Table.{Table, lent}
@@ -21,15 +21,7 @@ lists-passed n start from to marks sound l =
     let fit = sound-fit n start from to marks (Buchi 1) [] sound .proper in
     record { to-length = fit .to-length; marks-length = fit .marks-length; few = l }
 
--- too many states
-pub many-states : (t : Table) → mostJobStates < t .states → tooLarge t ≡ true
-many-states t l = ap (λ (b : Bool). b || ltb mostJobEdges (t .edges)) (lt-ltb mostJobStates (t .states) l)
-
--- too many edges
-pub many-edges : (t : Table) → t .states ≤ mostJobStates → mostJobEdges < t .edges → tooLarge t ≡ true
-many-edges t l h = ap (λ (b : Bool). b || ltb mostJobEdges (t .edges)) (le-ltb mostJobStates (t .states) l) ∙ lt-ltb mostJobEdges (t .edges) h
-
--- neither
+-- within the limits
 pub not-large : (t : Table) → t .states ≤ mostJobStates → t .edges ≤ mostJobEdges → tooLarge t ≡ false
 not-large t l h = ap (λ (b : Bool). b || ltb mostJobEdges (t .edges)) (le-ltb mostJobStates (t .states) l) ∙ le-ltb mostJobEdges (t .edges) h
 

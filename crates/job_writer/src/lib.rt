@@ -15,7 +15,7 @@ ghost use Rattle.table.specs.Table.{lent};
 ghost use Rattle.table.specs.Refusal.{refusal};
 ghost use Rattle.puts.specs.Put.{Put, PutFew};
 ghost use Rattle.job_writer.specs.Written.{headText, jobText};
-ghost use Rattle.job_writer.specs.Writing.{Writes};
+ghost use Rattle.job_writer.specs.Writing.{large, Writes};
 ghost use Rattle.job_writer.specs.inner.{Passed};
 
 // The largest tables that are written: the job text's limits.
@@ -46,6 +46,16 @@ fn put_text(out: &mut [u8], n: u32, start: u32, from: &[u32], to: &[u32], marks:
     put_word(out, end, b"end=job\n")
 }
 
+// Row 23: whether a table is too large for a job.
+fn too_large(n: u32, m: usize) -> bool
+    ensures { λ r. ⌜ r ≡ large n m ⌝ }
+{
+    if MOST_STATES < n {
+        return true;
+    }
+    MOST_EDGES < m
+}
+
 // A refusal that is no edge's.
 fn refused(number: u32) -> Written
     ensures { λ r. ⌜ r ≡ Written.Refused number 0 ⌝ }
@@ -65,10 +75,7 @@ fn write_sound(
     requires { ⌜ refusal (lent n start (now from) (now to) (now marks)) (Acceptance.Buchi 1) [] ≡ Finding.Sound ⌝ }
     ensures { λ r. ⌜ Writes (lent n start (now (from .entry)) (now (to .entry)) (now (marks .entry))) (now (out .entry)) (now (out .exit)) r ⌝ }
 {
-    if MOST_STATES < n {
-        return refused(23);
-    }
-    if MOST_EDGES < from.len() {
+    if too_large(n, from.len()) {
         return refused(23);
     }
     let length = put_text(&mut out[0..0], n, start, from, to, marks);

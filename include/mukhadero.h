@@ -27,9 +27,9 @@
 #include <stdint.h>
 
 /* The version of this header; mukhadero_version() gives that of the archive. They must be equal. */
-#define MUKHADERO_VERSION_STRING "1.1.0"
+#define MUKHADERO_VERSION_STRING "1.2.0"
 #define MUKHADERO_VERSION_MAJOR  1
-#define MUKHADERO_VERSION_MINOR  1
+#define MUKHADERO_VERSION_MINOR  2
 #define MUKHADERO_VERSION_PATCH  0
 #define MUKHADERO_VERSION (10000 * MUKHADERO_VERSION_MAJOR + 100 * MUKHADERO_VERSION_MINOR + MUKHADERO_VERSION_PATCH)
 
@@ -50,7 +50,10 @@ enum {
     MUKHADERO_MOST_RABIN_MARKS   = 32, /* forbidden and needed marks of all pairs together */
     MUKHADERO_MOST_HOA_STATES    = 256,
     MUKHADERO_MOST_HOA_EDGES     = 512, /* tables of so many cells are never too short to be read into */
-    MUKHADERO_MOST_HOA_BYTES     = 52205 /* an output of so many bytes is never too short to be written to */
+    MUKHADERO_MOST_HOA_BYTES     = 52205, /* an output of so many bytes is never too short to be written to */
+    MUKHADERO_MOST_JOB_STATES    = 256,
+    MUKHADERO_MOST_JOB_EDGES     = 512,
+    MUKHADERO_MOST_JOB_BYTES     = 11336 /* an output of so many bytes is never too short for a job text to be written to */
 };
 
 /* In the room: the waiting edge of a stop state. The walk halts there for ever. */
@@ -79,10 +82,10 @@ enum {
     MUKHADERO_REFUSED_TABLE_SIZE    = 10, /* the translated table would be above 4,096 states or 32,768 edges */
     MUKHADERO_REFUSED_OUTPUT        = 11, /* a lent output is shorter than the translated edge count, the edges that were read, or the
                                              text that was to be written */
-    MUKHADERO_REFUSED_TEXT_LENGTH   = 20, /* job text above 12,288 bytes (20 to 23: only the judge program) */
+    MUKHADERO_REFUSED_TEXT_LENGTH   = 20, /* job text above 12,288 bytes (20 to 22: only the programs) */
     MUKHADERO_REFUSED_LINE_KEY      = 21, /* a line has the wrong key, is missing, or follows the end; place: the line */
     MUKHADERO_REFUSED_LINE_VALUE    = 22, /* a value is not of its form; place: the line */
-    MUKHADERO_REFUSED_PROGRAM_LIMIT = 23, /* above the program's limits; place: the line */
+    MUKHADERO_REFUSED_PROGRAM_LIMIT = 23, /* above the limits of a job; place: the line, and 0 where a job text was to be written */
     MUKHADERO_REFUSED_HOA_SYNTAX    = 40, /* not the Hanoi format, version 1; place: the byte where the faulty token begins */
     MUKHADERO_REFUSED_HOA_SUBSET    = 41, /* outside of what is read of it; place: the byte */
     MUKHADERO_REFUSED_HOA_LIMIT     = 42  /* above its limits; place: the byte, and 0 where a text was to be written */
@@ -289,6 +292,24 @@ mukhadero_text mukhadero_write_hoa_rabin(
     const uint32_t needs[8], /* needed marks of each pair; those from p on must be 0; only read; never NULL */
     uint8_t *out,            /* receives the text, then zeros to its end */
     size_t out_len           /* bytes in out; MUKHADERO_MOST_HOA_BYTES are always enough */
+);
+
+/*
+ * Writes a table read as Buchi 1, which is what mukhadero_one_mark makes, as a job text: `form=2`, states, start, `kind=buchi`, `count=1`,
+ * `need=-`, edges, the edge lines, `end=job`. Refused are tables that the judge refuses under Buchi 1 by causes 1 to 7 (a mark above 0 is
+ * cause 7), those above 256 states or 512 edges (23), and an output that is too short (11). A refusal changes no lent cell.
+ */
+mukhadero_text mukhadero_write_job(
+    uint32_t n,              /* number of states */
+    uint32_t start,          /* the start state */
+    const uint32_t *from,    /* the state each edge leaves; never decreasing; only read */
+    size_t from_len,         /* cells in from */
+    const uint32_t *to,      /* the state each edge arrives at; only read */
+    size_t to_len,           /* cells in to; must equal from_len */
+    const uint32_t *marks,   /* the marks on each edge: 1 if it bears mark 0, else 0; only read */
+    size_t marks_len,        /* cells in marks; must equal from_len */
+    uint8_t *out,            /* receives the text, then zeros to its end */
+    size_t out_len           /* bytes in out; MUKHADERO_MOST_JOB_BYTES are always enough */
 );
 
 #ifdef __cplusplus

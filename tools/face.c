@@ -1,5 +1,6 @@
 /* The header against the archive, in C and in C++: tools/outside compiles this with every warning an error, and runs it. */
 #include <stdio.h>
+#include <string.h>
 #include "mukhadero.h"
 
 static int failed = 0;
@@ -18,6 +19,8 @@ enum { ROOM = sizeof room / sizeof *room, SCRATCH = sizeof scratch / sizeof *scr
 
 int main(void) {
     const uint32_t from[EDGES] = {0, 1, 2, 3}, to[EDGES] = {1, 2, 3, 1}, marks[EDGES] = {1, 0, 2, 0}, needs[8] = {1, 0, 0, 0, 0, 0, 0, 0};
+    const uint32_t loop[1] = {0}, mark[1] = {1};
+    const char job[] = "form=2\nstates=1\nstart=0\nkind=buchi\ncount=1\nneed=-\nedges=1\nedge=0,0,00000001\nend=job\n";
     uint32_t none = 0, out_from[5], out_to[5], out_marks[5];
     mukhadero_answer a;
     mukhadero_table t;
@@ -71,5 +74,16 @@ int main(void) {
     expect(w.number == MUKHADERO_REFUSED_OUTPUT && w.length == 0, "an output that is too short for a text");
     w = mukhadero_write_hoa_streett(257, 0, NULL, 0, NULL, 0, NULL, 0, 0, text, sizeof text);
     expect(w.number == MUKHADERO_REFUSED_HOA_LIMIT && w.place == 0, "more states than a text may have");
+
+    /* a table with one mark is written as a job text */
+    w = mukhadero_write_job(1, 0, loop, 1, loop, 1, mark, 1, text, sizeof text);
+    expect(w.number == MUKHADERO_ANSWERED && w.place == 0 && w.length == sizeof job - 1, "a job text is written");
+    expect(memcmp(text, job, sizeof job) == 0, "the job text, and a zero behind it");
+    w = mukhadero_write_job(1, 0, loop, 1, loop, 1, mark, 1, text, sizeof job - 2);
+    expect(w.number == MUKHADERO_REFUSED_OUTPUT && w.length == 0, "an output that is too short for a job text");
+    w = mukhadero_write_job(257, 0, NULL, 0, NULL, 0, NULL, 0, NULL, 0);
+    expect(w.number == MUKHADERO_REFUSED_PROGRAM_LIMIT && w.place == 0, "more states than a job may have comes before an output that is too short");
+    w = mukhadero_write_job(STATES, 0, from, EDGES, to, EDGES, marks, EDGES, text, sizeof text);
+    expect(w.number == MUKHADERO_REFUSED_EDGE_MARK && w.place == 2, "a mark above 0");
     return failed;
 }

@@ -119,6 +119,10 @@ extern "C" {
         n: u32, start: u32, from: *const u32, from_len: usize, to: *const u32, to_len: usize, marks: *const u32, marks_len: usize,
         p: u32, needs: *const [u32; 8], out: *mut u8, out_len: usize,
     ) -> WrittenText;
+    fn mukhadero_write_job(
+        n: u32, start: u32, from: *const u32, from_len: usize, to: *const u32, to_len: usize, marks: *const u32, marks_len: usize,
+        out: *mut u8, out_len: usize,
+    ) -> WrittenText;
 }
 
 /// The version of the linked archive: 10,000 for the major number, 100 for the minor, 1 for the patch.
@@ -230,5 +234,18 @@ pub fn write_hoa(table: &Table, condition: &Condition, out: &mut [u8]) -> Writte
                 n, start, from.as_ptr(), from.len(), to.as_ptr(), to.len(), marks.as_ptr(), marks.len(), pairs, needs, out.as_mut_ptr(), out.len(),
             ),
         }
+    }
+}
+
+/// Writes a table read as Büchi 1 as a job text; the answer in plain numbers.
+#[must_use]
+#[rustfmt::skip]
+pub fn write_job(table: &Table, out: &mut [u8]) -> WrittenText {
+    let Table { states: n, start, from, to, marks } = *table;
+    // Safety: each pointer comes with the length of its own slice; the output is `&mut`, so it overlaps nothing.
+    unsafe {
+        mukhadero_write_job(
+            n, start, from.as_ptr(), from.len(), to.as_ptr(), to.len(), marks.as_ptr(), marks.len(), out.as_mut_ptr(), out.len(),
+        )
     }
 }

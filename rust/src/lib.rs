@@ -49,13 +49,15 @@
 
 pub mod ffi;
 mod hoa;
+mod job;
 mod refusal;
 
 pub use hoa::{read_hoa, write_hoa, HoaRefusal, HoaText, MOST_HOA_BYTES, MOST_HOA_EDGES, MOST_HOA_STATES};
+pub use job::{write_job, MOST_JOB_BYTES};
 pub use refusal::{Cause, Refusal};
 
 /// The version of this crate as the archive numbers its own: 10,000 for the major number, 100 for the minor, 1 for the patch.
-pub const VERSION: u32 = 10_100;
+pub const VERSION: u32 = 10_200;
 
 /// The version of the linked archive; an archive that fits this crate gives [`VERSION`].
 ///

@@ -91,6 +91,10 @@ bottomText prefix cycle = shown prefix= (listText prefix) ++ shown cycle= (listT
 unfoldable pub answerText : Verdict → Acceptance → List ℕ → List ℕ
 answerText v c room = topText v c ++ bottomText (take (prefixOf v) room) (take (cycleOf v) (drop (prefixOf v) room))
 
+-- a refusal: number and place, no pair, no edges
+abbrev pub refusedText : ℕ → ℕ → List ℕ
+refusedText number place = answerText (Refused number place) (Buchi 0) []
+
 -- a buffer of this many bytes is long enough for every answer of the program: at most (32 + 2) * 256 - 1 edges, each a number below 512 or `stop`,
 -- with their commas, and what stands around them (`Room.enough`, in proofs/)
 abbrev pub mostPrinted : ℕ

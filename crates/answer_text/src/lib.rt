@@ -15,7 +15,7 @@ ghost use mathlib.Core.Bool.{cond};
 ghost use Rattle.table.specs.Verdict.{numberOf, placeOf, prefixOf, cycleOf};
 ghost use Rattle.puts.specs.Put.{decimal, Put, PutFew};
 ghost use Rattle.job_text.specs.Value.{dash};
-ghost use Rattle.answer_text.specs.Printed.{stepText, furtherText, listText, shown, verdict=, pair=, verdictWord, isRabin, pairText, topText, bottomText, answerText, Prints};
+ghost use Rattle.answer_text.specs.Printed.{stepText, furtherText, listText, shown, verdict=, pair=, verdictWord, isRabin, pairText, topText, bottomText, answerText, refusedText, Prints};
 
 // The number of a waiting edge. crates/table/specs/Table.antt has the same number, as `waiting`.
 const WAITING: u32 = 65535;
@@ -93,7 +93,8 @@ fn put_verdict(out: &mut [u8], verdict: Verdict) -> usize
     }
 }
 
-fn is_rabin(condition: Acceptance) -> bool
+// Whether the condition is of the kind rabin.
+pub fn is_rabin(condition: Acceptance) -> bool
     ensures { λ r. ⌜ r ≡ isRabin condition ⌝ }
 {
     match condition {
@@ -245,4 +246,15 @@ pub fn print(answer: Answer, condition: Acceptance, room: &[u32], out: &mut [u8]
     put_answer(out, verdict, condition, room);
     clear(out, length);
     Printed::Text { length }
+}
+
+// The six lines of a refusal and zeros after them, in the same way.
+pub fn print_refused(number: u32, place: u32, out: &mut [u8]) -> Printed
+    ensures { λ r. ⌜ Prints (refusedText number place) (now (out .entry)) (now (out .exit)) r ⌝ }
+{
+    let room = [0u32; 0];
+    let refused = Answer {
+        verdict: Verdict::Refused { number, place },
+    };
+    print(refused, Acceptance::Buchi(0), &room, out)
 }

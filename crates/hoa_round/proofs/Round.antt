@@ -17,7 +17,8 @@ use Rattle.job_text.specs.Value.{Edge}
 use Rattle.job_text.specs.Job.{job}
 use Rattle.hoa_formula.specs.Standard.{mostPairs}
 use Rattle.hoa_writer.specs.Written.{hoaText}
-use Rattle.hoa_writer.specs.Writing.{mostWritten, mostWrittenEdges, tooLarge, orElse, writeRefusal}
+use Rattle.hoa_writer.specs.Writing.{mostWritten, mostWrittenEdges, tooLarge, writeRefusal}
+use Rattle.writing.specs.Writing.{orElse}
 use Rattle.hoa.specs.Reading.{readHoa}
 use Rattle.hoa_grammar.proofs.Complete.{read-all}
 use Rattle.hoa_round.specs.Back.{edgeOf, edgesTo, SameCells, backOf, ReadsBack}

@@ -18,15 +18,18 @@ use Rattle.job_text.specs.Value.{Edge, padTo}
 use Rattle.job_text.specs.Job.{mostJobEdges, Job, Outcome, job, fault, readJob}
 use Rattle.job_text.specs.Reading.{readingOf, cellsOf, Read}
 use Rattle.answer_text.specs.Printed.{Prints}
-use Rattle.hoa_writer.specs.declared.Written.{Written}
-use Rattle.hoa_writer.specs.declared.Written.the-variants as written
+use Rattle.writing.specs.declared.Written.{Written}
+use Rattle.writing.specs.declared.Written.the-variants as written
+use Rattle.writing.specs.Writing.{writtenOf, outputOf}
 use Rattle.hoa_writer.specs.Written.{hoaText}
-use Rattle.hoa_writer.specs.Writing.{mostBytes, writeRefusal, writtenOf, outputOf, Writes}
+use Rattle.hoa_writer.specs.Writing.{mostBytes, writeRefusal, Writes}
 use Rattle.hoa_writer.proofs.Writings.{not-large}
 use Rattle.hoa_writer.proofs.Size.{most-bytes}
-use Rattle.judge_text.specs.Replied.{edgeCells, jobTable, refusedText}
+use Rattle.job_text.specs.Asked.{edgeCells, jobTable}
+use Rattle.judge_text.specs.Replied.{refusedText}
 use Rattle.judge_text.proofs.Limits.{Limited, Bounded, read-bounded}
-use Rattle.judge_text.proofs.Telling.{unlike, same-text, part-is, printed-all}
+use Rattle.job_text.proofs.Tables.{unlike, part-is}
+use Rattle.judge_text.proofs.Telling.{same-text, printed-all}
 use Rattle.hoa_text.specs.Turned.{writtenFor, turned, Stands, Turned}
 
 -- ---- what the writer gives for a job

@@ -2,13 +2,13 @@
 // `job_text`, writes by `hoa_writer`, prints a refusal by `answer_text`. What a text is turned into is in specs/Turned.antt.
 use answer_text::Printed;
 use answer_text::print;
-use hoa_writer::Written;
 use hoa_writer::write_hoa;
 use job_text::reader::read;
 use table::Acceptance;
 use table::Answer;
 use table::Finding;
 use table::Verdict;
+use writing::Written;
 ghost use Rattle.judge_text.specs.Replied.{refusedText};
 ghost use Rattle.hoa_text.specs.Turned.{Stands, Turned};
 

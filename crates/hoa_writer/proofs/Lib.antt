@@ -4,7 +4,7 @@ pub mod Sigs
 pub mod Formulas
 -- Rows: the lines of a state
 pub mod Rows
--- Writings: what the writer gives
+-- Writings: the lists of a table that is not refused, and the limits
 pub mod Writings
 -- Size: how long a text is at most
 pub mod Size

@@ -13,8 +13,7 @@ use Rattle.table.specs.declared.Acceptance.{Acceptance}
 use Rattle.table.specs.declared.Acceptance.the-variants.{Buchi, Streett, Rabin}
 use Rattle.table.specs.Table.{lent}
 use Rattle.table.specs.Condition.{need, dealt}
-use Rattle.table.specs.declared.Finding.{Finding}
-use Rattle.table.specs.declared.Finding.the-variants.{Sound, Refused}
+use Rattle.table.specs.declared.Finding.the-variants.{Sound}
 use Rattle.table.specs.Refusal.{used, refusal, wrongCondition}
 use Rattle.table.proofs.Sound.{Fit, sound-fit, used-few, rabin-few}
 use Rattle.puts.specs.Put.{decimal, held, joined}
@@ -22,8 +21,9 @@ use Rattle.puts.proofs.Puts.{digits-few}
 use Rattle.hoa_tokens.specs.Bytes.{bytes}
 use Rattle.hoa_writer.specs.Written.{line, close, furtherInfs, buchiText, streettPair, furtherStreett, streettText, rabinPair, furtherRabin, rabinText, formula}
 use Rattle.hoa_writer.specs.Written.{markText, marksText, sigText, edgeText, leaving, rowText, rowsText, headText, acceptanceText, hoaText}
+use Rattle.writing.proofs.Writings as writings
 use Rattle.hoa_writer.proofs.Formulas.{dealt-up}
-use Rattle.hoa_writer.specs.Writing.{mostWritten, mostWrittenEdges, mostBytes, tooLarge, orElse, writeRefusal}
+use Rattle.hoa_writer.specs.Writing.{mostWritten, mostWrittenEdges, mostBytes, tooLarge, writeRefusal}
 use Rattle.hoa_writer.proofs.Writings.{not-large}
 
 -- ---- numbers
@@ -373,6 +373,4 @@ room-enough n start from to marks c needs sound l h room enough =
     let t = lent n start from to marks in
     let text = hoaText t c needs in
     let long = most-bytes n start from to marks c needs (sound-fit n start from to marks c needs sound) l h in
-    ap (λ (f : Finding). orElse f (cond (tooLarge t) (Refused 42 0) (cond (ltb room (length text)) (Refused 11 0) Sound))) sound
-    ∙ ap (λ (b : Bool). cond b (Refused 42 0) (cond (ltb room (length text)) (Refused 11 0) Sound)) (not-large t l h)
-    ∙ ap (λ (b : Bool). cond b (Refused 11 0) Sound) (le-ltb room (length text) (omega arith))
+    writings.room-enough (refusal t c needs) (tooLarge t) 42 text room sound (not-large t l h) (omega arith)

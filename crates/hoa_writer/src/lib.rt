@@ -15,6 +15,7 @@ ghost use Rattle.hoa_writer.specs.Writing.{Writes, mostWritten};
 ghost use Rattle.hoa_writer.specs.inner.{Passed};
 use table::Acceptance;
 use table::Finding;
+use writing::Written;
 
 // The largest tables that are written.
 pub const MOST_STATES: u32 = 256;
@@ -23,12 +24,6 @@ pub const MOST_EDGES: usize = 512;
 
 // An output of this many bytes is long enough for every text. specs/Writing.antt has the same number, as `mostBytes`.
 pub const MOST_BYTES: usize = 52205;
-
-// What writing gives: the text's length, or the number and the place of the first cause to refuse.
-pub enum Written {
-    Text { length: usize },
-    Refused { number: u32, place: u32 },
-}
 
 // The lines before the condition's.
 fn put_head(out: &mut [u8], n: u32, start: u32) -> usize

@@ -6,5 +6,6 @@ pub mod Lines
 pub mod Heads
 pub mod Bodies
 pub mod Jobs
+pub mod Tables
 pub mod Promises
 pub mod Examples

@@ -3,3 +3,4 @@ pub mod Value
 pub mod Job
 pub mod Given
 pub mod Reading
+pub mod Asked

@@ -3,7 +3,7 @@ ghost use mathlib.Core.Path.{_≡_};
 ghost use Rattle.job_text.specs.Text.{FirstAt, same};
 
 // The first place from `from` on at which the byte stands; the end where there is none.
-pub(crate) fn find(bytes: &[u8], from: usize, byte: u8) -> usize
+pub fn find(bytes: &[u8], from: usize, byte: u8) -> usize
     ensures { λ r. ⌜ FirstAt (now (bytes .entry)) from byte r ⌝ }
 {
     let mut i = from;
@@ -17,7 +17,7 @@ pub(crate) fn find(bytes: &[u8], from: usize, byte: u8) -> usize
 }
 
 // Whether the two are the same bytes.
-pub(crate) fn alike(bytes: &[u8], word: &[u8]) -> bool
+pub fn alike(bytes: &[u8], word: &[u8]) -> bool
     ensures { λ r. ⌜ r ≡ same (now (bytes .entry)) (now (word .entry)) ⌝ }
 {
     if bytes.len() != word.len() {

@@ -19,7 +19,7 @@ pub(crate) const MOST_NUMBER: u32 = 65535;
 const COMMA: u8 = 44;
 
 // A number, or that the bytes are not of its form.
-pub(crate) enum Number {
+pub enum Number {
     Value(u32),
     Wrong,
 }
@@ -94,7 +94,7 @@ fn leading_zero(bytes: &[u8]) -> bool
 }
 
 // A number: decimal, no leading zeros, at most 65,535.
-pub(crate) fn read_number(bytes: &[u8]) -> Number
+pub fn read_number(bytes: &[u8]) -> Number
     ensures { λ r. ⌜ numberGiven r ≡ number (now (bytes .entry)) ⌝ }
 {
     if bytes.len() == 0 {

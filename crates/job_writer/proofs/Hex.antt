@@ -19,12 +19,12 @@ use Rattle.job_writer.proofs.Decimals.{Over, over-both, spelt-last}
 -- ---- one digit
 
 -- the byte of a decimal digit
-byte-low : (d : ℕ) → d < 10 → hexByte d ≡ 48 + d
+pub byte-low : (d : ℕ) → d < 10 → hexByte d ≡ 48 + d
 unfolding hexByte
 byte-low d l = rw (lt-ltb d 10 l)
 
 -- the byte of another
-byte-high : (d : ℕ) → 10 ≤ d → hexByte d ≡ 87 + d
+pub byte-high : (d : ℕ) → 10 ≤ d → hexByte d ≡ 87 + d
 unfolding hexByte
 byte-high d l = rw (le-ltb d 10 l)
 

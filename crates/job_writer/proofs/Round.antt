@@ -1,12 +1,12 @@
 -- Reading a text that was written gives the table back (`reads-back`): line by line, each says what it was written for. Assumes nothing.
 use mathlib.Core.Path.{_≡_, refl, sym, ap, _∙_}
 use mathlib.Core.Bool.{Bool, true, false, cond}
-use mathlib.Core.List.{List, [], _∷_, _++_, append-assoc, append-nil, map}
+use mathlib.Core.List.{List, [], _∷_, _++_, append-assoc, map}
 use mathlib.Core.Option.{some}
 use Prim.Native.Nat.{ℕ, zero, suc, _+_, _-_, _*_, _^_, _≤_, _<_}
-use native.Mathlib.Nat.{add-zero, add-suc}
+use native.Mathlib.Nat.{add-zero}
 use native.Mathlib.Omega.{arith}
-use lib.ListN.{length, getD, drop, drop-of-length-le, replicate}
+use lib.ListN.{length, getD, take, drop, drop-of-length-le}
 use lib.Seq.{drop-cons}
 use borrow.Author.Tests.{le-ltb}
 use Rattle.marks.specs.Mark.{width}
@@ -20,7 +20,15 @@ use Rattle.table.specs.declared.Acceptance.the-variants.{Buchi}
 use Rattle.table.specs.Table.{lent}
 use Rattle.job_text.specs.Job.{mostBytes, Job, jobLines, readJob, Found, found, above, unlimited, asked, next, _>>=_, give, formLine, kindLine, Head, countLines, stateLines, headLines, edgeLines, endLines, bodyLines}
 use Rattle.job_writer.specs.Written.{hexText, shown, edgeText, edgesText, headText, jobText}
+use Rattle.table.specs.declared.Finding.the-variants.{Sound}
+use Rattle.table.specs.Refusal.{refusal}
+use Rattle.table.proofs.Sound.{sound-fit}
+use Rattle.writing.specs.declared.Written.the-variants as written
+use Rattle.writing.proofs.Writings.{nothing-refused, text-given}
 use Rattle.job_writer.specs.Back.{ReadsBack}
+use Rattle.job_writer.specs.Writing.{tooLarge, writeRefusal, Writes}
+use Rattle.job_writer.proofs.Lists.{limits}
+use Rattle.job_writer.proofs.Size.{most-bytes}
 use Rattle.job_writer.proofs.Decimals.{Over, over-both, over?, over-test, digits-over, number-back}
 use Rattle.job_writer.proofs.Hex.{hex-over, hex-back}
 use Rattle.job_writer.proofs.Lines.{fields-field, fields-last, next-there, perhaps-there, then}
@@ -226,3 +234,26 @@ module _ (n start : ℕ) (from to marks : List ℕ) (to-length : length to ≡ l
         condition = refl;
         needs = refl;
       }
+
+-- ---- what the writer gives
+
+module _ (n start : ℕ) (from to marks : List ℕ) where
+  -- the text of a table that is not refused reads back
+  pub reads-back : (room : ℕ) → writeRefusal (lent n start from to marks) room ≡ Sound → ReadsBack (lent n start from to marks) (jobText (lent n start from to marks))
+  reads-back room e =
+      let t = lent n start from to marks in
+      let sound = nothing-refused (refusal t (Buchi 1) []) (tooLarge t) 23 (jobText t) room e in
+      let fit = sound-fit n start from to marks (Buchi 1) [] (sound .0) in
+      let p = fit .proper in
+      let within = limits t (sound .1) in
+      let small : Small from to marks (length from) = record {
+        from-small = λ i l. omega (arith, p .from-below i l, p .few);
+        to-small = λ i l. omega (arith, p .to-below i l, p .few);
+        marks-small = λ i l. omega (arith, fit .marks-below i l);
+      } in
+      read-back n start from to marks (p .to-length) (p .marks-length) (within .0) (omega (arith, p .start-below, p .few)) (within .1) small
+      (omega (arith, most-bytes n start from to marks fit (within .0) (within .1)))
+
+  -- so do the bytes that stand in the output where a text is given
+  pub written-back : {out out' : List ℕ} {size : ℕ} → Writes (lent n start from to marks) out out' (written.Text size) → ReadsBack (lent n start from to marks) (take size out')
+  written-back {out} W = let given = text-given W in rw (given .1) (reads-back (length out) (given .0))

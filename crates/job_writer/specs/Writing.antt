@@ -16,8 +16,12 @@ use Rattle.job_writer.specs.Written.{jobText}
 -- ---- the limits
 
 -- "n is above 256 or m above 512"
+abbrev pub large : ℕ → ℕ → Bool
+large n m = ltb mostJobStates n || ltb mostJobEdges m
+
+-- a table that is
 abbrev pub tooLarge : Table → Bool
-tooLarge t = ltb mostJobStates (t .states) || ltb mostJobEdges (t .edges)
+tooLarge t = large (t .states) (t .edges)
 
 -- "at most 11,336 bytes": a buffer of so many is long enough for every text (`Size.most-bytes` and `Size.room-enough`, in proofs/)
 abbrev pub mostBytes : ℕ

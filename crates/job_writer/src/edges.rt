@@ -17,7 +17,7 @@ fn hex_byte(digit: u32) -> u8
     if value < 10 {
         return b'0' + value;
     }
-    b'a' - 10 + value
+    b'a' + (value - 10)
 }
 
 // The eight hex digits of a set of marks, the highest first.
@@ -29,7 +29,8 @@ fn put_hex(out: &mut [u8], at: usize, set: u32) -> usize
     let mut i: u32 = 0;
     while i < 8 {
         let digit = (set >> (28 - 4 * i)) % 16;
-        next = put(out, next, hex_byte(digit));
+        let byte = hex_byte(digit);
+        next = put(out, next, byte);
         i += 1;
     }
     next

@@ -15,7 +15,7 @@ ghost use Rattle.table.specs.Table.{lent};
 ghost use Rattle.table.specs.Refusal.{refusal};
 ghost use Rattle.puts.specs.Put.{Put, PutFew};
 ghost use Rattle.job_writer.specs.Written.{headText, jobText};
-ghost use Rattle.job_writer.specs.Writing.{Writes};
+ghost use Rattle.job_writer.specs.Writing.{large, Writes};
 ghost use Rattle.job_writer.specs.inner.{Passed};
 
 // The largest tables that are written: the job text's limits.
@@ -32,24 +32,11 @@ fn put_head(out: &mut [u8], n: u32, start: u32, m: u32) -> usize
 {
     let starts = put_held(out, 0, b"form=2\nstates=", n, b'\n');
     let kinds = put_held(out, starts, b"start=", start, b'\n');
-    put_held(
-        out,
-        kinds,
-        b"kind=buchi\ncount=1\nneed=-\nedges=",
-        m,
-        b'\n',
-    )
+    put_held(out, kinds, b"kind=buchi\ncount=1\nneed=-\nedges=", m, b'\n')
 }
 
 // The text of a table that rows 1 to 7 and the limits let pass.
-fn put_text(
-    out: &mut [u8],
-    n: u32,
-    start: u32,
-    from: &[u32],
-    to: &[u32],
-    marks: &[u32],
-) -> usize
+fn put_text(out: &mut [u8], n: u32, start: u32, from: &[u32], to: &[u32], marks: &[u32]) -> usize
     requires { ⌜ Passed (now from) (now to) (now marks) ⌝ }
     ensures { λ r. ⌜ Put (now (out .entry)) (now (out .exit)) 0 (jobText (lent n start (now (from .entry)) (now (to .entry)) (now (marks .entry)))) r ⌝ }
 {
@@ -57,6 +44,16 @@ fn put_text(
     let begin = put_head(out, n, start, m);
     let end = edges::put_edges(out, begin, from, to, marks);
     put_word(out, end, b"end=job\n")
+}
+
+// Row 23: whether a table is too large for a job.
+fn too_large(n: u32, m: usize) -> bool
+    ensures { λ r. ⌜ r ≡ large n m ⌝ }
+{
+    if MOST_STATES < n {
+        return true;
+    }
+    MOST_EDGES < m
 }
 
 // A refusal that is no edge's.
@@ -78,10 +75,7 @@ fn write_sound(
     requires { ⌜ refusal (lent n start (now from) (now to) (now marks)) (Acceptance.Buchi 1) [] ≡ Finding.Sound ⌝ }
     ensures { λ r. ⌜ Writes (lent n start (now (from .entry)) (now (to .entry)) (now (marks .entry))) (now (out .entry)) (now (out .exit)) r ⌝ }
 {
-    if MOST_STATES < n {
-        return refused(23);
-    }
-    if MOST_EDGES < from.len() {
+    if too_large(n, from.len()) {
         return refused(23);
     }
     let length = put_text(&mut out[0..0], n, start, from, to, marks);

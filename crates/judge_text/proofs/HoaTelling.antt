@@ -19,10 +19,12 @@ use Rattle.hoa.specs.Reading.{readHoa}
 use Rattle.hoa.specs.Returned.{refusedHoa, readOf, returned, cellsBy, ReadInto}
 use Rattle.hoa.proofs.Lawful.{Lawful, lawful}
 use Rattle.hoa.proofs.Places.{fault-within}
-use Rattle.judge_text.specs.Replied.{jobTable, refusedText, ReplyTo, Holds}
+use Rattle.job_text.specs.Asked.{jobTable}
+use Rattle.judge_text.specs.Replied.{refusedText, ReplyTo, Holds}
 use Rattle.judge_text.specs.HoaReplied.{mostHoaBytes, hoaOutcome, HoaReplied}
 use Rattle.judge_text.specs.inner.{Judged}
-use Rattle.judge_text.proofs.Telling.{part-is, job-reply}
+use Rattle.job_text.proofs.Tables.{part-is}
+use Rattle.judge_text.proofs.Telling.{job-reply}
 
 -- ---- the findings
 

@@ -20,7 +20,8 @@ use Rattle.table.proofs.Sound.{sound-fit}
 use Rattle.job_text.specs.Job.{mostJobStates, mostJobEdges, Job}
 use Rattle.judging.specs.Answer.{rank, roomNeeded, scratchNeeded, further, judgeRefusal, ByCause, Answers}
 use Rattle.judging.proofs.Ranks.{rank-few}
-use Rattle.judge_text.specs.Replied.{jobTable, lentRoom, lentScratch}
+use Rattle.job_text.specs.Asked.{jobTable}
+use Rattle.judge_text.specs.Replied.{lentRoom, lentScratch}
 
 -- ---- what a table within a job's limits needs
 

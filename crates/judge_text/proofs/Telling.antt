@@ -22,28 +22,13 @@ use Rattle.job_text.specs.Job.{mostJobStates, mostJobEdges, Job, Outcome, job, 
 use Rattle.job_text.specs.Reading.{readingOf, cellsOf, Read}
 use Rattle.answer_text.specs.Printed.{answerText, mostPrinted, Prints}
 use Rattle.judging.specs.Answer.{ByCause, Answers}
-use Rattle.judge_text.specs.Replied.{edgeCells, jobTable, lentRoom, lentScratch, refusedText, JobReply, ReplyTo, Holds, Replied}
+use Rattle.job_text.specs.Asked.{edgeCells, jobTable}
+use Rattle.judge_text.specs.Replied.{lentRoom, lentScratch, refusedText, JobReply, ReplyTo, Holds, Replied}
 use Rattle.judge_text.specs.inner.{Judged}
+use Rattle.job_text.proofs.Tables.{unlike, part-is}
 use Rattle.judge_text.proofs.Limits.{Limited, Bounded, read-bounded}
 use Rattle.judge_text.proofs.Lent.{enough}
 use Rattle.judge_text.proofs.Fits.{answer-fits}
-
--- ---- what was read
-
-pub unlike : {number place : ℕ} → Refused number place ≡ Sound → ⊥
-unlike e = let z : _≡_ {A = ℕ} 0 1 = cc in omega arith
-
--- the part of a table that the judge is lent is the edges' numbers
-pub part-is : (f : Edge → ℕ) (es : List Edge) → take (length es - 0) (drop 0 (padTo mostJobEdges (map f es))) ≡ map f es
-part-is f es =
-    let n : length es - 0 ≡ length (map f es) = omega (arith, length-map es f) in
-    ap (λ (k : ℕ). take k (padTo mostJobEdges (map f es))) n ∙ take-append-seam (map f es) _
-
--- the tables are as long as the edges are many
-edges-within : (f : Edge → ℕ) (o : Outcome) {r : Reading} {cells : List ℕ} (before : List ℕ) → r ≡ readingOf o → cells ≡ cellsOf f o before → r .edges ≤ length cells
-edges-within f (job j) before e g =
-    omega (arith, ap (λ (x : Reading). x .edges) e, ap length g, length-append (map f (j .edges)) (replicate (mostJobEdges - length (map f (j .edges))) 0), length-map (j .edges) f)
-edges-within f (fault number place) before e g = omega (arith, ap (λ (x : Reading). x .edges) e)
 
 -- ---- what the reader refuses
 
@@ -58,15 +43,6 @@ refused-by (fault x p) r number place e f = same-text (sym f ∙ ap (λ (x : Rea
 -- ---- for any text that is read
 
 module _ {text b b' b'' from to marks : List ℕ} {r : Reading} (R : Read text b b' b'' from to marks r) where
-  pub froms-reach : r .edges ≤ length from
-  froms-reach = edges-within (λ e. e .from) (readJob text) b (R .reading) (R .froms)
-
-  pub tos-reach : r .edges ≤ length to
-  tos-reach = edges-within (λ e. e .to) (readJob text) b' (R .reading) (R .tos)
-
-  pub sets-reach : r .edges ≤ length marks
-  sets-reach = edges-within (λ e. e .marks) (readJob text) b'' (R .reading) (R .sets)
-
   pub refused-so : {number place : ℕ} → r .finding ≡ Refused number place → ReplyTo (readJob text) (refusedText number place)
   refused-so {number} {place} f = refused-by (readJob text) r number place (R .reading) f
 

@@ -12,7 +12,8 @@ use Rattle.table.specs.declared.Verdict.the-variants.{Run, Empty, Refused}
 use Rattle.job_text.specs.Job.{Outcome, job, fault, readJob}
 use Rattle.answer_text.specs.Printed.{topText, answerText}
 use Rattle.judging.proofs.Unique.{Alike, answers-alike}
-use Rattle.judge_text.specs.Replied.{jobTable, lentRoom, lentScratch, ReplyTo, Holds, Replied}
+use Rattle.job_text.specs.Asked.{jobTable}
+use Rattle.judge_text.specs.Replied.{lentRoom, lentScratch, ReplyTo, Holds, Replied}
 use Rattle.judge_text.specs.HoaReplied.{hoaOutcome, HoaReplied}
 use Rattle.judge_text.specs.Reply.{TwoRuns}
 

@@ -1,28 +1,19 @@
 -- From bytes to bytes: what is printed for a text, every text (docs/RULES.md, "The job text and the printed answer" and "What comes back"). Assumes nothing.
 use mathlib.Core.Path.{_≡_}
-use mathlib.Core.List.{List, [], _++_, map}
+use mathlib.Core.List.{List, [], _++_}
 use Prim.Native.Nat.{ℕ, _+_, _-_, _*_}
 use lib.ListN.{length, replicate}
 use Rattle.marks.specs.Mark.{width}
 use Rattle.table.specs.declared.Acceptance.the-variants.{Buchi}
 use Rattle.table.specs.declared.Answer.{Answer}
 use Rattle.table.specs.declared.Verdict.the-variants.{Refused}
-use Rattle.table.specs.Table.{Table, lent}
 use Rattle.table.specs.Refusal.{refusal}
-use Rattle.job_text.specs.Value.{Edge}
 use Rattle.job_text.specs.Job.{mostJobStates, mostJobEdges, Job, Outcome, job, fault, readJob}
+use Rattle.job_text.specs.Asked.{jobTable}
 use Rattle.answer_text.specs.Printed.{answerText, mostPrinted}
 use Rattle.judging.specs.Answer.{judgeRefusal, Answers}
 
 -- ---- what the judge is asked
-
--- the numbers of a job's edges, in their order
-abbrev pub edgeCells : (Edge → ℕ) → Job → List ℕ
-edgeCells part j = map part (j .edges)
-
--- the table that a job says
-abbrev pub jobTable : Job → Table
-jobTable j = lent (j .states) (j .start) (edgeCells (λ e. e .from) j) (edgeCells (λ e. e .to) j) (edgeCells (λ e. e .marks) j)
 
 -- "lasso room needed: (r+2)·n - 1 cells", for the most states of a job and the largest r that row 4 lets pass
 abbrev pub lentRoom : ℕ

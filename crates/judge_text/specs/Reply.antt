@@ -5,20 +5,14 @@ use mathlib.Core.List.{List, _++_}
 use mathlib.Core.Logic.{_⊎_}
 use Prim.Native.Nat.{ℕ, _≤_}
 use Rattle.table.specs.declared.Acceptance.{Acceptance}
-use Rattle.table.specs.declared.Finding.{Finding}
 use Rattle.table.specs.declared.Finding.the-variants.{Sound, Refused}
 use Rattle.table.specs.declared.Verdict.{Verdict}
 use Rattle.table.specs.declared.Verdict.the-variants.{Run}
-use Rattle.table.specs.Refusal.{refusal}
-use Rattle.job_text.specs.Job.{Job, Outcome, job, fault, readJob}
+use Rattle.job_text.specs.Job.{Job, job, readJob}
+use Rattle.job_text.specs.Asked.{jobTable, firstCause}
 use Rattle.answer_text.specs.Printed.{topText, bottomText, answerText}
 use Rattle.judging.specs.Answer.{Decided}
-use Rattle.judge_text.specs.Replied.{jobTable, refusedText}
-
--- "20 comes first", then the first faulty line's 21, 22 or 23; "then rows 1 to 9", of which 8 and 9 never come out
-abbrev pub firstCause : Outcome → Finding
-firstCause (fault number place) = Refused number place
-firstCause (job j) = refusal (jobTable j) (j .condition) (j .needs)
+use Rattle.judge_text.specs.Replied.{refusedText}
 
 -- a row of the table of causes that a text can come to: 1 to 7, 20 to 23
 abbrev pub TextRow : ℕ → Type 0

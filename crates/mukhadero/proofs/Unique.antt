@@ -6,6 +6,7 @@ use Prim.Native.Nat.{ℕ, _<_}
 use native.Mathlib.Omega.{arith}
 use lib.ListN.{length}
 use Rattle.table.specs.declared.Acceptance.{Acceptance}
+use Rattle.table.specs.declared.Finding.{Finding}
 use Rattle.table.specs.declared.Verdict.{Verdict}
 use Rattle.table.specs.declared.Verdict.the-variants.{Run, Empty, Refused}
 use Rattle.table.specs.Table.{Table}
@@ -14,10 +15,11 @@ use Rattle.judging.proofs.Unique.{Alike, answers-alike}
 use Rattle.one_mark.proofs.Faithful.{one-result}
 use Rattle.mukhadero.specs.declared.AnswerNumbers.{AnswerNumbers}
 use Rattle.mukhadero.specs.declared.TableNumbers.{TableNumbers}
+use Rattle.writing.proofs.Writings.{given-once}
 use Rattle.hoa.proofs.Returning.{read-once as once}
 use Rattle.mukhadero.specs.declared.hanoi.HoaNumbers.{HoaNumbers}
 use Rattle.mukhadero.specs.declared.hanoi.TextNumbers.{TextNumbers}
-use Rattle.mukhadero.specs.Hoa.{ReadTells, WriteTells, hoaNumbers, textNumbers}
+use Rattle.mukhadero.specs.Hoa.{ReadTells, TextTells, hoaNumbers, textNumbers}
 use Rattle.mukhadero.specs.Numbers.{JudgeTells, TranslationTells, answerNumbers, tableNumbers}
 
 -- ---- the judge
@@ -91,9 +93,10 @@ read-once text from to marks r s R S =
     let one = once (R .promised) (S .promised) in
     (R .told ∙ ap hoaNumbers (one .0) ∙ sym (S .told), one .1)
 
--- ---- the writer of the Hanoi format
+-- ---- the writers
 
-pub written-once : (t : Table) (c : Acceptance) (needs out : List ℕ) (r s : TextNumbers) {out₁ out₂ : List ℕ}
-    → WriteTells t c needs out out₁ r → WriteTells t c needs out out₂ s → (r ≡ s) × (out₁ ≡ out₂)
-written-once t c needs out r s R S =
-    (R .told ∙ ap textNumbers (R .promised .answer ∙ sym (S .promised .answer)) ∙ sym (S .told), R .promised .output ∙ sym (S .promised .output))
+pub written-once : (text : List ℕ) (cause : Finding) (out : List ℕ) (r s : TextNumbers) {out₁ out₂ : List ℕ}
+    → TextTells text cause out out₁ r → TextTells text cause out out₂ s → (r ≡ s) × (out₁ ≡ out₂)
+written-once text cause out r s R S =
+    let one = given-once (R .promised) (S .promised) in
+    (R .told ∙ ap textNumbers (one .0) ∙ sym (S .told), one .1)

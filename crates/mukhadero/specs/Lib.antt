@@ -1,4 +1,4 @@
 -- Numbers: what the judges and the translation tell
 pub mod Numbers
--- Hoa: what the reader and the writer of the Hanoi format tell
+-- Hoa: what the reader of the Hanoi format and the writers tell
 pub mod Hoa

@@ -8,10 +8,10 @@ use crate::ANSWERED;
 use hoa::Hoa;
 use hoa::HoaFinding;
 use hoa::read_hoa;
-use hoa_writer::Written;
 use hoa_writer::write_hoa;
 use marks::Marks;
 use table::Acceptance;
+use writing::Written;
 
 const BUCHI: u32 = 0;
 
@@ -104,7 +104,7 @@ fn hoa_numbers(hoa: Hoa) -> HoaNumbers
 }
 
 // What writing gives, in plain numbers.
-fn text_numbers(written: Written) -> TextNumbers
+pub(crate) fn text_numbers(written: Written) -> TextNumbers
     ensures { λ r. ⌜ r ≡ textNumbers written ⌝ }
 {
     match written {

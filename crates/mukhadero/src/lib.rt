@@ -1,6 +1,7 @@
 // The C face, as include/mukhadero.h declares it: the proved judge and the proved translation under C names, with their answers in plain numbers.
-// Each function takes any input; relies on `judging` and `one_mark` for all that it says. The Hanoi format is in `hanoi`.
+// Each function takes any input; relies on `judging` and `one_mark` for all that it says. The Hanoi format is in `hanoi`, the job text in `job`.
 mod hanoi;
+mod job;
 
 ghost use mathlib.Core.Path.{_≡_};
 ghost use Rattle.table.specs.Table.{lent};
@@ -21,8 +22,8 @@ const RUN: u32 = 2;
 
 pub(crate) const ANSWERED: u32 = 0;
 
-// 1.1.0: 10,000 for the major number, 100 for the minor, 1 for the patch; as MUKHADERO_VERSION of the header
-const VERSION: u32 = 10100;
+// 1.2.0: 10,000 for the major number, 100 for the minor, 1 for the patch; as MUKHADERO_VERSION of the header
+const VERSION: u32 = 10200;
 
 // `mukhadero_answer`: a field that has no meaning for the verdict is 0.
 #[repr(C)]
@@ -113,7 +114,7 @@ fn table_numbers(answer: Translation) -> TableNumbers
 // The version of this archive.
 #[no_mangle]
 pub extern "C" fn mukhadero_version() -> u32
-    ensures { λ r. ⌜ r ≡ 10100 ⌝ }
+    ensures { λ r. ⌜ r ≡ 10200 ⌝ }
 {
     VERSION
 }

@@ -6,7 +6,7 @@ use Prim.Native.Nat.{ℕ, _+_, _-_, _≤_, _<_}
 use native.Mathlib.Omega.{arith}
 use lib.Dec.{ltb}
 use lib.ListN.{length, take, replicate, length-append}
-use lib.Seq.{sets}
+use lib.Seq.{sets, take-at}
 use borrow.Author.Tests.{lt-ltb, le-ltb}
 use Rattle.table.specs.declared.Finding.{Finding}
 use Rattle.table.specs.declared.Finding.the-variants.{Sound, Refused}
@@ -14,6 +14,10 @@ use Rattle.puts.proofs.Puts.{as-it-was, then-zeros}
 use Rattle.writing.specs.declared.Written.{Written}
 use Rattle.writing.specs.declared.Written.the-variants as written
 use Rattle.writing.specs.Writing.{orElse, textRefusal, writtenOf, outputOf, Gives}
+
+-- a refusal is not sound
+not-sound : {number place : ℕ} → Refused number place ≡ Sound → ⊥
+not-sound e = let z : _≡_ {A = ℕ} 0 1 = cc in omega arith
 
 module _ (rows : Finding) (large : Bool) (limit : ℕ) (text : List ℕ) where
   -- what is asked behind rows 1 to 7
@@ -41,6 +45,15 @@ module _ (rows : Finding) (large : Bool) (limit : ℕ) (text : List ℕ) where
   pub room-enough : (room : ℕ) → rows ≡ Sound → large ≡ false → length text ≤ room → textRefusal rows large limit text room ≡ Sound
   unfolding asked
   room-enough room s l h = decided room false false s l (le-ltb room (length text) h)
+
+  -- where nothing is refused, no test refuses
+  pub nothing-refused : (room : ℕ) → textRefusal rows large limit text room ≡ Sound → (rows ≡ Sound) × (large ≡ false)
+  nothing-refused room e = by rows large (ltb room (length text)) e
+    where
+      by : (r : Finding) (many short : Bool) → orElse r (cond many (Refused limit 0) (cond short (Refused 11 0) Sound)) ≡ Sound → (r ≡ Sound) × (many ≡ false)
+      by Sound true short q = absurd (not-sound q)
+      by Sound false short q = (refl, refl)
+      by (Refused number place) many short q = absurd (not-sound q)
 
   module _ (out : List ℕ) where
     -- the refusal decides what is given
@@ -72,6 +85,14 @@ module _ (rows : Finding) (large : Bool) (limit : ℕ) (text : List ℕ) where
           let long : length text ≤ length out = omega (arith, length-append ys out) in
           let e : n ≡ length text = omega arith in
           rw (e, then-zeros text out ys out' out'' n none counted l p z) (given-by Sound (room-enough (length out) sound fits long))
+
+-- where a text is given, nothing was refused, and the text stands in the output
+pub text-given : {text : List ℕ} {cause : Finding} {out out' : List ℕ} {size : ℕ} → Gives text cause out out' (written.Text size) → (cause ≡ Sound) × (take size out' ≡ text)
+text-given {text} {cause} {out} {out'} {size} G = by cause (G .answer) (G .output)
+  where
+    by : (f : Finding) → written.Text size ≡ writtenOf text f → out' ≡ outputOf text out f → (f ≡ Sound) × (take size out' ≡ text)
+    by Sound e o = let n : size ≡ length text = cc in (refl, rw (o, n) (take-at text _ (length text) refl))
+    by (Refused number place) e o = let z : _≡_ {A = ℕ} 0 1 = cc in absurd (omega arith)
 
 -- any two results that are given for one text, one cause and one output are equal, and so is what the output holds then
 pub given-once : {text : List ℕ} {cause : Finding} {out o o' : List ℕ} {r s : Written} → Gives text cause out o r → Gives text cause out o' s → (r ≡ s) × (o ≡ o')

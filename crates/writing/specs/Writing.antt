@@ -38,3 +38,10 @@ outputOf text out (Refused number place) = out
 pub record Gives (text : List ℕ) (cause : Finding) (out out' : List ℕ) (r : Written) : Type 0 where
   pub answer : r ≡ writtenOf text cause
   pub output : out' ≡ outputOf text out cause
+
+-- ---- a text in a buffer of a known length
+
+-- the text stands in out, which has so many bytes, with zeros behind it, and size is how long it is
+pub record Stands (room : ℕ) (text out : List ℕ) (size : ℕ) : Type 0 where
+  pub all : size ≡ length text
+  pub cells : out ≡ text ++ replicate (room - size) 0

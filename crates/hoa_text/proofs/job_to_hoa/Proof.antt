@@ -2,7 +2,7 @@
 -- the edges are many (`froms-reach`, ..), and stands in the output (`text-turned`) or is refused by one of rows 1 to 7, which is told (`row-turned`).
 -- Assumes nothing.
 use borrow.Author.Needs.{needs}
-use Rattle.judge_text.proofs.Telling.{froms-reach, tos-reach, sets-reach}
+use Rattle.job_text.proofs.Tables.{froms-reach, tos-reach, sets-reach}
 use Rattle.hoa_text.proofs.Turning.{refused-turned, text-turned, row-turned}
 use Rattle.hoa_text.proofs.job_to_hoa.Statement.{statement}
 use Rattle.hoa_text.proofs.job_to_hoa.Tie as tie

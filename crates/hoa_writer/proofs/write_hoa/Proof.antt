@@ -3,7 +3,10 @@ use mathlib.Core.Path.{_≡_, sym, _∙_}
 use denote.Ref.{now}
 use Rattle.table.specs.declared.Finding.the-variants.{Sound}
 use Rattle.table.specs.Table.{lent}
-use Rattle.hoa_writer.proofs.Writings.{refused-row}
+use Rattle.table.specs.Refusal.{refusal}
+use Rattle.writing.proofs.Writings.{refused-row}
+use Rattle.hoa_writer.specs.Written.{hoaText}
+use Rattle.hoa_writer.specs.Writing.{tooLarge}
 use borrow.Author.Needs.{needs}
 use Rattle.hoa_writer.proofs.write_hoa.Statement.{statement}
 use Rattle.hoa_writer.proofs.write_hoa.Tie as tie
@@ -30,7 +33,8 @@ returns c =
     let at-entry = after-check .before .before .before .before .before in
     let a = at-entry .args in
     let found = after-check .check in
-    refused-row (lent (a .n) (a .start) (now (a .from)) (now (a .to)) (now (a .marks))) (a .condition) (a .needs) (now (a .out)) _ _ (sym (found .ensures) ∙ cc)
+    let t = lent (a .n) (a .start) (now (a .from)) (now (a .to)) (now (a .marks)) in
+    refused-row (refusal t (a .condition) (a .needs)) (tooLarge t) 42 (hoaText t (a .condition) (a .needs)) (now (a .out)) _ _ (sym (found .ensures) ∙ cc)
 
 same-length : tie.Need-same-length
 same-length c = search needs

@@ -1,8 +1,12 @@
--- `write_sound` meets its contract: the limits, then writing into no cells gives the length, and where there is room the text is written (`Writings`).
+-- `write_sound` meets its contract: the limits, then writing into no cells gives the length, and where there is room the text is written (crate `writing`).
 -- Assumes nothing.
 use denote.Ref.{now}
 use Rattle.table.specs.Table.{lent}
-use Rattle.hoa_writer.proofs.Writings.{lists-passed, permitted, many-states, many-edges, not-large, refused-large, refused-short, given-text}
+use Rattle.table.specs.Refusal.{refusal}
+use Rattle.writing.proofs.Writings.{refused-large, refused-short, given-text}
+use Rattle.hoa_writer.specs.Written.{hoaText}
+use Rattle.hoa_writer.specs.Writing.{tooLarge}
+use Rattle.hoa_writer.proofs.Writings.{lists-passed, permitted, many-states, many-edges, not-large}
 use native.Mathlib.Omega.{arith}
 use borrow.Author.Needs.{needs}
 use Rattle.hoa_writer.proofs.write_sound.Statement.{statement}
@@ -16,7 +20,7 @@ returns c =
     let at-entry = c .before .before .before .before .before .before in
     let a = at-entry .args in
     let t = lent (a .n) (a .start) (now (a .from)) (now (a .to)) (now (a .marks)) in
-    rw (c .refused .ensures) (refused-large t (a .condition) (a .needs) (now (a .out)) (at-entry .pre) (many-states t (c .before .if1 .taken)))
+    rw (c .refused .ensures) (refused-large (refusal t (a .condition) (a .needs)) (tooLarge t) 42 (hoaText t (a .condition) (a .needs)) (now (a .out)) (at-entry .pre) (many-states t (c .before .if1 .taken)))
 
 refused-requires-2 : tie.Need-refused-requires-2
 refused-requires-2 c κs = search needs
@@ -26,7 +30,7 @@ returns-2 c =
     let at-entry = c .before .before .before .before .before .before .before in
     let a = at-entry .args in
     let t = lent (a .n) (a .start) (now (a .from)) (now (a .to)) (now (a .marks)) in
-    rw (c .refused2 .ensures) (refused-large t (a .condition) (a .needs) (now (a .out)) (at-entry .pre) (many-edges t (c .before .before .if1 .left) (c .before .if2 .taken)))
+    rw (c .refused2 .ensures) (refused-large (refusal t (a .condition) (a .needs)) (tooLarge t) 42 (hoaText t (a .condition) (a .needs)) (now (a .out)) (at-entry .pre) (many-edges t (c .before .before .if1 .left) (c .before .if2 .taken)))
 
 sub-put-text : tie.Need-sub-put-text
 sub-put-text c = search needs
@@ -61,7 +65,7 @@ returns-3 c =
     let small = not-large t (at-if1 .if1 .left) (at-if2 .if2 .left) in
     let count = after-put-text .put-text in
     rw (c .refused3 .ensures)
-    (refused-short t (a .condition) (a .needs) (now (a .out)) (at-entry .pre) small (count .last .0) (count .result) (count .kept .0) (count .ensures .next)
+    (refused-short (refusal t (a .condition) (a .needs)) (tooLarge t) 42 (hoaText t (a .condition) (a .needs)) (now (a .out)) (at-entry .pre) small (count .last .0) (count .result) (count .kept .0) (count .ensures .next)
     (c .before .if3 .taken))
 
 put-text-requires-2 : tie.Need-put-text-requires-2
@@ -90,7 +94,7 @@ returns-4 c =
     let small = not-large t (at-if1 .if1 .left) (at-if2 .if2 .left) in
     let count = after-put-text .put-text in
     let text = after-put-text2 .put-text2 in
-    given-text t (a .condition) (a .needs) (now (a .out)) (at-entry .pre) small (count .last .0) (count .result) (count .kept .0) (count .ensures .next)
+    given-text (refusal t (a .condition) (a .needs)) (tooLarge t) 42 (hoaText t (a .condition) (a .needs)) (now (a .out)) (at-entry .pre) small (count .last .0) (count .result) (count .kept .0) (count .ensures .next)
     (text .last .0) _ (at-if3 .if3 .left) (text .ensures .cells) (c .before .before .clear .ensures)
 
 pub write-sound-spec : {M : Type 1} → statement M

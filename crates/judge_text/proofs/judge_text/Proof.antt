@@ -1,7 +1,8 @@
 -- `judge_text` meets its contract: what the reader refuses is printed (`refused-so`); what it reads is judged, in parts of the tables that are as long as
 -- the edges are many (`froms-reach`, ..), and the answer that is printed is the text's reply (`judged-so`). Assumes nothing.
 use borrow.Author.Needs.{needs}
-use Rattle.judge_text.proofs.Telling.{froms-reach, tos-reach, sets-reach, refused-so, states-few, edges-few, judged-so}
+use Rattle.job_text.proofs.Tables.{froms-reach, tos-reach, sets-reach}
+use Rattle.judge_text.proofs.Telling.{refused-so, states-few, edges-few, judged-so}
 use Rattle.judge_text.proofs.judge_text.Statement.{statement}
 use Rattle.judge_text.proofs.judge_text.Tie as tie
 

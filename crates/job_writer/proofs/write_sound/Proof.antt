@@ -1,0 +1,116 @@
+-- `write_sound` meets its contract: the limits, then writing into no cells gives the length, and where there is room the text is written (crate `writing`).
+-- Assumes nothing.
+use mathlib.Core.Path.{_≡_, sym, _∙_}
+use mathlib.Core.Bool.{true, false}
+use mathlib.Core.List.{[]}
+use denote.Ref.{now}
+use Rattle.table.specs.declared.Acceptance.the-variants.{Buchi}
+use Rattle.table.specs.Table.{lent}
+use Rattle.table.specs.Refusal.{refusal}
+use Rattle.writing.proofs.Writings.{refused-large, refused-short, given-text}
+use Rattle.job_writer.specs.Written.{jobText}
+use Rattle.job_writer.specs.Writing.{tooLarge}
+use Rattle.job_writer.proofs.Lists.{lists-passed, limits}
+use borrow.Author.Needs.{needs}
+use Rattle.job_writer.proofs.write_sound.Statement.{statement}
+use Rattle.job_writer.proofs.write_sound.Tie as tie
+
+too-large-requires : tie.Need-too-large-requires
+too-large-requires c κs = search needs
+
+refused-requires : tie.Need-refused-requires
+refused-requires c κs = search needs
+
+returns : tie.Need-returns
+returns c =
+    let at-entry = c .before .before .before .before .before .before .before in
+    let a = at-entry .args in
+    let t = lent (a .n) (a .start) (now (a .from)) (now (a .to)) (now (a .marks)) in
+    let many : tooLarge t ≡ true = sym (c .before .before .too-large .ensures) ∙ c .before .if1 .taken in
+    rw (c .refused .ensures) (refused-large (refusal t (Buchi 1) []) (tooLarge t) 23 (jobText t) (now (a .out)) (at-entry .pre) many)
+
+sub-put-text : tie.Need-sub-put-text
+sub-put-text c = search needs
+
+part-put-text-start : tie.Need-part-put-text-start
+part-put-text-start c = search needs
+
+part-put-text-end : tie.Need-part-put-text-end
+part-put-text-end c = search needs
+
+put-text-requires : tie.Need-put-text-requires
+put-text-requires c κs =
+    let at-if1 = c .before in
+    let at-entry = at-if1 .before .before .before .before .before .before in
+    let a = at-entry .args in
+    let t = lent (a .n) (a .start) (now (a .from)) (now (a .to)) (now (a .marks)) in
+    let small : tooLarge t ≡ false = sym (at-if1 .before .too-large .ensures) ∙ at-if1 .if1 .left in
+    lists-passed (a .n) (a .start) (now (a .from)) (now (a .to)) (now (a .marks)) (at-entry .pre) (limits t small .1)
+
+refused-requires-2 : tie.Need-refused-requires-2
+refused-requires-2 c κs = search needs
+
+same-length : tie.Need-same-length
+same-length c = search needs
+
+returns-2 : tie.Need-returns-2
+returns-2 c =
+    let after-put-text = c .before .before .before .before in
+    let at-if1 = after-put-text .before .before in
+    let at-entry = at-if1 .before .before .before .before .before .before in
+    let a = at-entry .args in
+    let t = lent (a .n) (a .start) (now (a .from)) (now (a .to)) (now (a .marks)) in
+    let small : tooLarge t ≡ false = sym (at-if1 .before .too-large .ensures) ∙ at-if1 .if1 .left in
+    let count = after-put-text .put-text in
+    rw (c .refused2 .ensures)
+    (refused-short (refusal t (Buchi 1) []) (tooLarge t) 23 (jobText t) (now (a .out)) (at-entry .pre) small (count .last .0) (count .result) (count .kept .0)
+    (count .ensures .next) (c .before .if2 .taken))
+
+put-text-requires-2 : tie.Need-put-text-requires-2
+put-text-requires-2 c κs =
+    let at-if1 = c .before .before .before .before .before .before in
+    let at-entry = at-if1 .before .before .before .before .before .before in
+    let a = at-entry .args in
+    let t = lent (a .n) (a .start) (now (a .from)) (now (a .to)) (now (a .marks)) in
+    let small : tooLarge t ≡ false = sym (at-if1 .before .too-large .ensures) ∙ at-if1 .if1 .left in
+    lists-passed (a .n) (a .start) (now (a .from)) (now (a .to)) (now (a .marks)) (at-entry .pre) (limits t small .1)
+
+clear-requires : tie.Need-clear-requires
+clear-requires c κs = search needs
+
+same-length-2 : tie.Need-same-length-2
+same-length-2 c = search needs
+
+returns-3 : tie.Need-returns-3
+returns-3 c =
+    let after-put-text2 = c .before .before .before .before .before .before in
+    let at-if2 = after-put-text2 .before .before in
+    let after-put-text = at-if2 .before .before .before in
+    let at-if1 = after-put-text .before .before in
+    let at-entry = at-if1 .before .before .before .before .before .before in
+    let a = at-entry .args in
+    let t = lent (a .n) (a .start) (now (a .from)) (now (a .to)) (now (a .marks)) in
+    let small : tooLarge t ≡ false = sym (at-if1 .before .too-large .ensures) ∙ at-if1 .if1 .left in
+    let count = after-put-text .put-text in
+    let text = after-put-text2 .put-text2 in
+    given-text (refusal t (Buchi 1) []) (tooLarge t) 23 (jobText t) (now (a .out)) (at-entry .pre) small (count .last .0) (count .result) (count .kept .0)
+    (count .ensures .next) (text .last .0) _ (at-if2 .if2 .left) (text .ensures .cells) (c .before .before .clear .ensures)
+
+pub write-sound-spec : {M : Type 1} → statement M
+write-sound-spec =
+    tie.close
+    (tie.spec
+    too-large-requires
+    refused-requires
+    returns
+    sub-put-text
+    part-put-text-start
+    part-put-text-end
+    put-text-requires
+    refused-requires-2
+    same-length
+    returns-2
+    put-text-requires-2
+    clear-requires
+    same-length-2
+    returns-3)

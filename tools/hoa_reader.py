@@ -383,6 +383,7 @@ class Reader:
         self.names = []
         self.formula, self.condition = None, None
         self.rows = {}  # state: edges that are kept, in the order of the text
+        self.state_names = {}  # state: the bytes between the quotes in its row
         self.kept, self.largest = 0, 0  # edges; the largest of the start, the rows and the targets
 
     def take(self, token):
@@ -575,12 +576,13 @@ class Reader:
             raise Fault(SUBSET, "labels on states are not read, only labels on edges")
         if token.value in self.rows:
             raise Fault(SUBSET, "this state has a row already")
-        self.edges = self.rows[self.state(token)] = []
+        self.at = self.state(token)
+        self.edges = self.rows[self.at] = []
         self.row_marks, self.edge_marks, self.expect = 0, None, "row_name"
 
     def row_name(self, token):
         if token.kind == "STRING":
-            self.expect = "row_sig"
+            self.state_names[self.at], self.expect = token.value, "row_sig"
         else:
             self.row_sig(token)
 

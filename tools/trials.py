@@ -1,4 +1,4 @@
-"""What the trials of the launchers share (tools/try-judge, tools/try-hoa); not a command by itself."""
+"""What the trials share (tools/try-judge, tools/try-hoa, tools/try-release, tools/walk); not a command by itself."""
 
 import os
 import shutil
@@ -29,12 +29,19 @@ def tally():
     return failed == 0
 
 
+def link(source, target):
+    """The same file under a second name, or a copy if that can't be."""
+    try:
+        os.link(source, target)
+    except OSError:
+        shutil.copy2(source, target)
+
+
 def launched(launcher, *words, text=None, **more):
     """Runs a launcher; text is what its standard input holds."""
     if text is not None:
         more["input"] = text
-    more.setdefault("stdout", subprocess.PIPE)
-    return subprocess.run([launcher, *words], stderr=subprocess.PIPE, timeout=60, **more)
+    return subprocess.run([launcher, *words], **({"stdout": subprocess.PIPE, "stderr": subprocess.PIPE, "timeout": 60} | more))
 
 
 def seen(done):
@@ -80,7 +87,6 @@ class Tree:
     def __init__(self, folder, launcher, program, given):
         self.root, self.calls, self.program, self.step, self.given = folder / "a tree", folder / "calls", folder / "program", folder / "step", given
         shutil.copytree(ROOT / "tools", self.root / "tools")
-        shutil.copytree(ROOT / "include", self.root / "include")
         self.launcher = self.root / "tools" / launcher
         (self.root / "crates.txt").write_text(f"# crates\n{launcher}: job_text io\njob_text: marks\nmarks:\nother: marks\n")
         for file in (f"{launcher}/src/main.rt", f"{launcher}/stdout", "job_text/src/lib.rt", "job_text/must-fail/one.edit", "marks/proofs/Lib.antt", "other/src/lib.rt"):

@@ -13,8 +13,6 @@ use: tools/job_to_hoa [--quiet] [FILE]    writes the job text in FILE, or on sta
 
 Standard output: the text; if the job is refused, the six lines of the refusal. Standard error: one sentence on what was done and, if the job is refused, where to
 look; not with --quiet. Exit status: 0 written, 2 refused, 3 no answer (also for wrong use). README.md has the job text and the codes.
-The first call proves and builds the program, which takes some minutes; so does the first call after a change of its sources.
-A file whose name begins with - is given as ./-NAME.
 """
 
 

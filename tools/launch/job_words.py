@@ -16,7 +16,12 @@ COUNTS = {"buchi": "32 marks", "streett": "16 pairs", "rabin": "8 pairs"}
 def read_answer(text, output):
     """The exit status and the sentence; None if the output is no printed answer."""
     job = Job(text)
-    return answers.read_answer(output, lambda prefix, cycle: f" (edge 0 is line {job.first_edge} of the job)", lambda code, place: refused(job, code, place))
+    return answers.read_answer(output, lambda prefix, cycle: where(job, prefix, cycle), lambda code, place: refused(job, code, place))
+
+
+def where(job, prefix, cycle):
+    some = answers.edges_of(prefix) + answers.edges_of(cycle)
+    return f" (edge 0 is line {job.first_edge} of the job)" if some else ""
 
 
 class Job:
@@ -25,9 +30,19 @@ class Job:
     def __init__(self, text):
         self.text = text
         *self.lines, self.rest = text.split(b"\n")  # rest: what stands behind the last newline
-        self.has_kind = len(self.lines) > 2 and self.lines[2].startswith(b"kind=")
-        self.keys = ["states", "start"] + ["kind"] * self.has_kind + ["count", "need", "edges"]
+        self.has_form = self.begins(1, b"form=")
+        self.kind_place = 3 + self.has_form
+        self.has_kind = self.begins(self.kind_place, b"kind=")
+        self.keys = ["form"] * self.has_form + ["states", "start"] + ["kind"] * self.has_kind + ["count", "need", "edges"]
         self.first_edge = len(self.keys) + 1
+
+    def begins(self, number, key):
+        """Whether the line is there and has this key."""
+        return number <= len(self.lines) and self.lines[number - 1].startswith(key)
+
+    def place(self, key):
+        """The number of the first line with this key."""
+        return self.keys.index(key) + 1
 
     def line(self, number):
         """The line, without its newline."""
@@ -35,13 +50,13 @@ class Job:
 
     def value(self, key):
         """The value in the first line with this key."""
-        return self.line(self.keys.index(key) + 1).partition(b"=")[2]
+        return self.line(self.place(key)).partition(b"=")[2]
 
     def number(self, key):
         return int(self.value(key))
 
     def kind(self):
-        return self.value("kind").decode() if self.has_kind else "buchi"
+        return self.value("kind").decode() if self.has_kind else "streett" if self.has_form else "buchi"
 
     def expected(self, number):
         """The key that the line must have: None behind the end."""
@@ -50,10 +65,18 @@ class Job:
         edge = number - self.first_edge
         return "edge" if edge < self.number("edges") else "end" if edge == self.number("edges") else None
 
+    def needs(self):
+        return [] if self.value("need") == b"-" else [int(need) for need in self.value("need").split(b",")]
+
     def edge(self, edge):
         """From, to and marks of an edge."""
         start, end, marks = self.line(self.first_edge + edge).partition(b"=")[2].split(b",")
         return int(start), int(end), int(marks, 16)
+
+    def table(self):
+        """The table of a job that is in order all through, under the keys that tools/hoa_reader.py has."""
+        numbers = {key: self.number(key) for key in ("states", "start", "count")}
+        return numbers | {"kind": self.kind(), "needs": self.needs(), "edges": [self.edge(edge) for edge in range(self.number("edges"))]}
 
 
 def refused(job, code, place):
@@ -68,12 +91,12 @@ def refused(job, code, place):
 
 
 def bad_condition(job):
-    return f"line {job.keys.index('need') + 1}: too many marks: each pair takes one forbidden mark and its needed ones, 32 in all at most"
+    return f"line {job.place('need')}: too many marks: each pair takes one forbidden mark and its needed ones, 32 in all at most"
 
 
 WHOLE = {
-    1: lambda job: "line 1: there are no states, a table has at least one",
-    3: lambda job: f"line 2: the start is no state: the states are {states(job)}",
+    1: lambda job: f"line {job.place('states')}: there are no states, a table has at least one",
+    3: lambda job: f"line {job.place('start')}: the start is no state: the states are {states(job)}",
     4: bad_condition,
     20: lambda job: "the job text is longer than 12,288 bytes",
 }
@@ -98,8 +121,7 @@ def unsorted(job, place):
 
 def used_marks(job):
     if job.kind() == "rabin":
-        needs = [] if job.value("need") == b"-" else job.value("need").split(b",")
-        return sum(1 + int(need) for need in needs)
+        return sum(1 + need for need in job.needs())
     return job.number("count") * (2 if job.kind() == "streett" else 1)
 
 
@@ -121,7 +143,7 @@ def wrong_key(job, place):
     key, equals, _ = line.partition(b"=")
     if expected is None:
         return "a line follows the end: " + ("it is blank" if not line.strip() else f"it holds {shown(line)}")
-    wanted = "`kind=` or `count=`" if place == 3 and not job.has_kind else f"`{expected}=`"
+    wanted = "`kind=` or `count=`" if place == job.kind_place and not job.has_kind else f"`{expected}=`"
     if place > len(job.lines):
         if not job.text:
             return "the line is missing: the text is empty"
@@ -142,6 +164,8 @@ def key_hint(job, place, line, key, equals, expected):
         return "it begins with a blank"
     if line.startswith(b"#"):
         return "there are no comments in a job"
+    if key == b"form" and equals:
+        return "the form's line stands once, before all others"
     if key.strip().lower() == expected.encode() and equals:
         return f"it must begin `{expected}=`, in lower case and without blanks"
     if expected == "edge" and key == b"end":
@@ -208,6 +232,8 @@ def value_hint(job, key, value):
         return "there is a blank in it"
     if key == "end":
         return "the last line is `end=job`"
+    if key == "form":
+        return "the line is `form=2`, or it is left out"
     hint = {"kind": kind_hint, "need": need_hint, "edge": edge_hint}.get(key, lambda job, value: number_hint(value))(job, value)
     return hint or shown(value)
 

@@ -17,8 +17,6 @@ use: tools/judge [--quiet] [FILE]    judges the job text in FILE, or on standard
 A text that begins with `HOA:`, blanks and comments aside, is taken for one in the Hanoi format and judged as tools/judge_hoa does; every other text is a job text.
 Standard output: the answer, six lines. Standard error: one sentence on what it means and, if the job is refused, where to look; not with --quiet.
 Exit status: 0 empty, 1 run, 2 refused, 3 no answer (also for wrong use). README.md has the job text, the answer and the codes.
-The first call proves and builds the program, which takes some minutes; so does the first call after a change of its sources.
-A file whose name begins with - is given as ./-NAME.
 """
 
 JOB = manners.Form("judge", job_words.LONGEST, job_words.read_answer)

@@ -14,8 +14,6 @@ use: tools/judge_hoa [--quiet] [FILE]    judges the text in the Hanoi format (HO
 
 Standard output: the answer, six lines. Standard error: one sentence on what it means and where in the text to look; not with --quiet.
 Exit status: 0 empty, 1 run, 2 refused, 3 no answer (also for wrong use). examples/hoa/README.md shows texts and answers, docs/RULES.md has all that is read.
-The first call proves and builds the program, which takes some minutes; so does the first call after a change of its sources.
-A file whose name begins with - is given as ./-NAME.
 """
 
 manners.main("judge_hoa", USE, "a text in the Hanoi format", lambda first: manners.Form("judge_hoa", hoa_words.LONGEST, hoa_words.read_answer))

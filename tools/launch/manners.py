@@ -1,8 +1,8 @@
 """The manners that the launchers share; not a command by itself.
 
-A launcher takes a file name or standard input, `--help`, `--version` and `--quiet`. It builds its program where sources changed, hands it the input, writes the
-program's lines to standard output and nothing else, says on standard error in one sentence what they mean, and ends with an exit status. Whatever goes wrong on
-the way (input, building, output) is told on standard error and ends with NO_ANSWER: it never looks like an empty text or like a good answer.
+A launcher takes a file name or standard input, `--help`, `--version` and `--quiet`. It builds its program where sources changed (a release has none), hands it the input,
+writes the program's lines, or what is made of them, to standard output and nothing else, says on standard error in one sentence what they mean, and ends with an exit status.
+Whatever goes wrong on the way (input, building, output) is told on standard error and ends with NO_ANSWER: it never looks like an empty text or like a good answer.
 """
 
 import fcntl
@@ -16,19 +16,21 @@ from collections import namedtuple
 from pathlib import Path
 
 EMPTY, RUN, REFUSED, NO_ANSWER = 0, 1, 2, 3
-WRITTEN = 0  # of a program that writes a text
+WRITTEN = DRAWN = 0  # of a launcher that writes a text, or draws
 SAID = 40  # tools/launch/run takes a status from here on for what was said, and all others for an accident
 INPUT = 9  # standard input, as tools/launch/run hands it on
 
 ROOT = Path(__file__).resolve().parent.parent.parent
+RELEASED = (ROOT / "PROOF.txt").exists()  # a release has its programs with it and no sources: nothing is built
 PATIENCE = 2  # seconds after which it is said that a build goes on
-
+BUILDS = "The first call proves and builds the program, which takes some minutes; so does the first call after a change of its sources.\n"
+NAMES = "A file whose name begins with - is given as ./-NAME.\n"
 
 FIRST = 12_288  # the bytes of an input by which its form is told
 
 # A form of input. `program`: the crate that takes it; `longest`: the most bytes that the program takes; `read_answer` takes the input and what the program wrote, and
-# gives the status and the sentence, or None if what was written is no answer.
-Form = namedtuple("Form", "program longest read_answer")
+# gives the status and the sentence, or None if what was written is no answer; `made` takes the same two, and gives what goes to standard output.
+Form = namedtuple("Form", "program longest read_answer made", defaults=[lambda text, output: output])
 
 
 class NoAnswer(Exception):
@@ -163,7 +165,7 @@ def write_note(program, sources):
 
 def built_program(program, say):
     """The program, built anew (`rt check`) unless it was built from the sources as they are. Rt itself goes by what the files hold: it proves nothing twice."""
-    if is_fresh(program, state_of_sources(program)):
+    if RELEASED or is_fresh(program, state_of_sources(program)):
         return paths(program)[0]
     with open(ROOT / "crates.txt") as lock:  # one build at a time, whoever starts it
         try:
@@ -210,34 +212,39 @@ def run(path, text):
 # ---- a launcher --------------------------------------------------------------------------------------------------------------------
 
 
-def version():
-    header = (ROOT / "include" / "mukhadero.h").read_text()
-    return "mukhadero " + re.search(r'^#define MUKHADERO_VERSION_STRING\s+"([^"]*)"', header, re.M)[1]
-
-
-def parsed(words, use):
-    """What the command line asks for: a text to print and nothing else, whether to be quiet, and the file."""
-    quiet, files = False, []
+def parsed(words, use, own):
+    """What the command line asks for: a text to print and nothing else, whether to be quiet, the file, and the launcher's own options with their values."""
+    quiet, files, options, words = False, [], {}, iter(words)
     for word in words:
         if word == "--help":
-            return use, quiet, None
+            return use, quiet, None, options
         if word == "--version":
-            return version() + "\n", quiet, None
+            return f"mukhadero {(ROOT / 'VERSION').read_text()}", quiet, None, options
         if word == "--quiet":
             quiet = True
+        elif word.startswith("--") and word[2:] in own:
+            options[word[2:]] = value_of(word, words, use) if own[word[2:]] else True
         elif word.startswith("-"):
             raise NoAnswer(f"{word} is no option\n{use.rstrip()}")
         else:
             files.append(word)
     if len(files) > 1:
         raise NoAnswer(f"one file at a time, not {len(files)}\n{use.rstrip()}")
-    return None, quiet, files[0] if files else None
+    return None, quiet, files[0] if files else None, options
 
 
-def answer_to(words, name, use, awaited, form_of):
+def value_of(option, words, use):
+    """The word behind an option."""
+    word = next(words, None)
+    if word is None:
+        raise NoAnswer(f"{option} takes a word behind it\n{use.rstrip()}")
+    return word
+
+
+def answer_to(words, name, use, awaited, form_of, own):
     """The launcher's work, and its status."""
     output_open = settle_descriptors()
-    print_only, quiet, file = parsed(words, use)
+    print_only, quiet, file, options = parsed(words, use, own)
     if not output_open:
         raise NoAnswer("standard output is closed, there is no place for an answer")
     if print_only is not None:
@@ -248,22 +255,23 @@ def answer_to(words, name, use, awaited, form_of):
         raise NoAnswer("standard input is closed, there is nothing to read")
     if file is None and os.isatty(INPUT):
         say(f"waiting for {awaited} on standard input; Ctrl-D on a line of its own ends it")
-    text, form = read_input(file, form_of)
+    text, form = read_input(file, lambda first: form_of(first, **options))
     output = run(built_program(form.program, say), text)
     answer = form.read_answer(text, output)
     if answer is None:
         raise NoAnswer("what the program wrote is no answer")
-    write_output(output)
+    write_output(form.made(text, output))
     status, sentence = answer
     say(sentence)
     return status
 
 
-def main(name, use, awaited, form_of):
-    """A launcher. `name`: its own; `awaited`: what it reads, in words; `form_of` takes the first bytes of the input, and gives its form."""
+def main(name, use, awaited, form_of, **own):
+    """A launcher. `name`: its own; `use`: what --help says of it alone; `awaited`: what it reads, in words; `form_of` takes the first bytes of the input and the launcher's own
+    options that are given, and gives its form; `own`: these options without their dashes, each with whether a word follows it."""
     signal.signal(signal.SIGINT, signal.SIG_DFL)
     try:
-        status = answer_to(sys.argv[1:], name, use, awaited, form_of)
+        status = answer_to(sys.argv[1:], name, use + ("" if RELEASED else BUILDS) + NAMES, awaited, form_of, own)
     except (NoAnswer, OSError) as why:
         tell(name, f"no answer: {why}")
         status = NO_ANSWER

@@ -11,13 +11,13 @@ use Rattle.table.specs.declared.Finding.the-variants.{Sound, Refused}
 use Rattle.table.specs.Table.{lent}
 use Rattle.table.specs.Refusal.{refusal}
 use Rattle.table.proofs.Sound.{sound-fit}
-use Rattle.job_text.specs.declared.printer.Printed.{Printed}
-use Rattle.job_text.specs.declared.printer.Printed.the-variants as printed
+use Rattle.answer_text.specs.declared.Printed.{Printed}
+use Rattle.answer_text.specs.declared.Printed.the-variants as printed
 use Rattle.job_text.specs.declared.reader.Reading.{Reading}
 use Rattle.job_text.specs.Value.{Edge, padTo}
 use Rattle.job_text.specs.Job.{mostJobEdges, Job, Outcome, job, fault, readJob}
 use Rattle.job_text.specs.Reading.{readingOf, cellsOf, Read}
-use Rattle.job_text.specs.Printed.{Prints}
+use Rattle.answer_text.specs.Printed.{Prints}
 use Rattle.hoa_writer.specs.declared.Written.{Written}
 use Rattle.hoa_writer.specs.declared.Written.the-variants as written
 use Rattle.hoa_writer.specs.Written.{hoaText}

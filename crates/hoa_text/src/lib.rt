@@ -1,9 +1,9 @@
 // From a job text to a text of the Hanoi format, bytes to bytes, for every byte string (docs/RULES.md, "The Hanoi format", the writer). Reads by
-// `job_text`, writes by `hoa_writer`, prints a refusal by `job_text`. What a text is turned into is in specs/Turned.antt.
+// `job_text`, writes by `hoa_writer`, prints a refusal by `answer_text`. What a text is turned into is in specs/Turned.antt.
+use answer_text::Printed;
+use answer_text::print;
 use hoa_writer::Written;
 use hoa_writer::write_hoa;
-use job_text::printer::Printed;
-use job_text::printer::print;
 use job_text::reader::read;
 use table::Acceptance;
 use table::Answer;

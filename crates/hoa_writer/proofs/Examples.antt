@@ -4,8 +4,8 @@ use mathlib.Core.List.{[], _∷_}
 use Rattle.table.specs.declared.Acceptance.the-variants.{Buchi, Streett, Rabin}
 use Rattle.table.specs.Table.{lent}
 use Rattle.hoa_tokens.specs.Bytes.{bytes}
-use Rattle.job_text.specs.Printed.{decimalIn}
-use Rattle.hoa_writer.specs.Written.{joined, buchiText, streettText, rabinText, formula, sigText, edgeText, rowText, headText, acceptanceText, hoaText}
+use Rattle.puts.specs.Put.{decimalIn, joined}
+use Rattle.hoa_writer.specs.Written.{buchiText, streettText, rabinText, formula, sigText, edgeText, rowText, headText, acceptanceText, hoaText}
 
 -- "`Inf(0)&Inf(1)`; `(Fin(0)|Inf(1))&(..)`; `(Fin(0)&Inf(1))|(Fin(2))`"
 buchi-2 : formula (Buchi 2) [] ≡ bytes "Inf(0)&Inf(1)"

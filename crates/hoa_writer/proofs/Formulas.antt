@@ -8,9 +8,9 @@ use native.Mathlib.Omega.{arith}
 use Rattle.marks.proofs.Cases.{same}
 use Rattle.table.specs.Condition.{need, dealt}
 use Rattle.hoa_tokens.specs.Bytes.{bytes}
-use Rattle.job_text.specs.Printed.{PutFew}
-use Rattle.hoa_writer.specs.Written.{held, close, furtherInfs, buchiText, streettPair, furtherStreett, streettText, rabinPair, furtherRabin, rabinText}
-use Rattle.hoa_writer.proofs.Few.{joined-more}
+use Rattle.puts.specs.Put.{held, PutFew}
+use Rattle.hoa_writer.specs.Written.{close, furtherInfs, buchiText, streettPair, furtherStreett, streettText, rabinPair, furtherRabin, rabinText}
+use Rattle.puts.proofs.Few.{joined-more}
 
 -- one less
 less-one : (k : ℕ) → suc k - 1 ≡ k

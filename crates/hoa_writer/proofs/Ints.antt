@@ -14,7 +14,7 @@ use Rattle.hoa_tokens.specs.declared.Kind.the-variants as kind-is
 use Rattle.hoa_tokens.specs.Bytes.{isDigit, isLetter, isName, isBlank, run}
 use Rattle.hoa_tokens.specs.Token.{int, taken, intLimit, spelt, isInt, number, front}
 use Rattle.hoa_tokens.proofs.Sizes.{byTest, run-some}
-use Rattle.job_text.specs.Printed.{decimalIn, decimal}
+use Rattle.puts.specs.Put.{decimalIn, decimal}
 use Rattle.hoa_writer.proofs.Spells.{Apart, Spells, spells-token}
 
 -- ---- bytes

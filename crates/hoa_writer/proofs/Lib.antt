@@ -1,5 +1,3 @@
--- Few: one text after another, in at most so many bytes
-pub mod Few
 -- Sigs: the marks of an edge
 pub mod Sigs
 -- Formulas: the formula of a condition

@@ -10,10 +10,10 @@ use lib.Seq.{take-all}
 use borrow.Author.Tests.{eq-eqb, ne-eqb}
 use Rattle.table.specs.Row.{part, run, Row}
 use Rattle.table.proofs.Rows.{part-length, part-at, run-most, Sorted, Begins, row-is, next-begins}
-use Rattle.job_text.specs.Printed.{PutFew}
-use Rattle.hoa_writer.specs.Written.{joined, edgeText, leaving, rowText}
+use Rattle.puts.specs.Put.{joined, PutFew}
+use Rattle.hoa_writer.specs.Written.{edgeText, leaving, rowText}
 use Rattle.hoa_writer.specs.inner.{edgesText, stateText}
-use Rattle.hoa_writer.proofs.Few.{joined-more}
+use Rattle.puts.proofs.Few.{joined-more}
 
 -- ---- joined texts
 

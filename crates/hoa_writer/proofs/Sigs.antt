@@ -6,7 +6,7 @@ use native.Mathlib.Nat.{one-mul, mod-eq-of-lt}
 use lib.Pow.{pow-lt}
 use borrow.Author.Tests.{eq-eqb, ne-eqb}
 use Rattle.marks.specs.Mark.{has, width}
-use Rattle.job_text.specs.Printed.{decimal}
+use Rattle.puts.specs.Put.{decimal}
 use Rattle.hoa_tokens.specs.Bytes.{bytes}
 use Rattle.hoa_writer.specs.Written.{markText, blank}
 

@@ -17,10 +17,10 @@ use Rattle.table.specs.declared.Finding.{Finding}
 use Rattle.table.specs.declared.Finding.the-variants.{Sound, Refused}
 use Rattle.table.specs.Refusal.{used, refusal, wrongCondition}
 use Rattle.table.proofs.Sound.{Fit, sound-fit, used-few, rabin-few}
-use Rattle.job_text.specs.Printed.{decimal}
-use Rattle.job_text.proofs.Puts.{digits-few}
+use Rattle.puts.specs.Put.{decimal, held, joined}
+use Rattle.puts.proofs.Puts.{digits-few}
 use Rattle.hoa_tokens.specs.Bytes.{bytes}
-use Rattle.hoa_writer.specs.Written.{line, held, close, joined, furtherInfs, buchiText, streettPair, furtherStreett, streettText, rabinPair, furtherRabin, rabinText, formula}
+use Rattle.hoa_writer.specs.Written.{line, close, furtherInfs, buchiText, streettPair, furtherStreett, streettText, rabinPair, furtherRabin, rabinText, formula}
 use Rattle.hoa_writer.specs.Written.{markText, marksText, sigText, edgeText, leaving, rowText, rowsText, headText, acceptanceText, hoaText}
 use Rattle.hoa_writer.proofs.Formulas.{dealt-up}
 use Rattle.hoa_writer.specs.Writing.{mostWritten, mostWrittenEdges, mostBytes, tooLarge, orElse, writeRefusal}

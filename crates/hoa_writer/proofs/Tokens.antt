@@ -25,8 +25,8 @@ use Rattle.hoa_tokens.specs.declared.Sign.the-variants as sign-is
 use Rattle.hoa_tokens.specs.Bytes.{bytes}
 use Rattle.hoa_tokens.specs.Token.{Token, int, word, header, sign, finish, front}
 use Rattle.hoa_tokens.specs.Stream.{gapOf, first, some, tokensAt}
-use Rattle.job_text.specs.Printed.{decimalIn, decimal}
-use Rattle.hoa_writer.specs.Written.{line, joined, furtherInfs, buchiText, streettPair, streettText, rabinPair, rabinText, formula}
+use Rattle.puts.specs.Put.{decimalIn, decimal, joined}
+use Rattle.hoa_writer.specs.Written.{line, furtherInfs, buchiText, streettPair, streettText, rabinPair, rabinText, formula}
 use Rattle.hoa_writer.specs.Written.{markText, marksText, sigText, edgeText, rowText, rowsText, headText, acceptanceText, hoaText}
 use Rattle.hoa_writer.specs.Writing.{mostWritten}
 use Rattle.hoa_writer.specs.Tokens.{joinedTokens, atomTokens, infsTokens, buchiTokens, streettTokens, rabinTokens, formulaTokens}

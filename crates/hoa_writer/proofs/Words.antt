@@ -15,7 +15,7 @@ use Rattle.hoa_tokens.specs.declared.Sign.{Sign}
 use Rattle.hoa_tokens.specs.declared.Sign.the-variants as sign-is
 use Rattle.hoa_tokens.specs.Bytes.{bytes, same, isDigit, isCapital, isLetter, isName, isBlank, run}
 use Rattle.hoa_tokens.specs.Token.{Token, int, word, header, sign, body, end, taken, intLimit, wordOf, headerOf, named, fixed, signOf, front}
-use Rattle.hoa_writer.specs.Written.{held}
+use Rattle.puts.specs.Put.{held}
 use Rattle.hoa_writer.proofs.Spells.{Apart, Spells, spells-apart, spells-both, spells-blank, spells-token}
 use Rattle.hoa_writer.proofs.Ints.{spells-int}
 

@@ -7,14 +7,14 @@ use native.Mathlib.Omega.{arith}
 use lib.Dec.{ltb}
 use lib.ListN.{length, take, replicate, length-append}
 use lib.Seq.{sets}
-use borrow.Author.Tests.{lt-ltb, le-ltb, lt-leb, le-leb}
+use borrow.Author.Tests.{lt-ltb, le-ltb}
 use Rattle.table.specs.declared.Acceptance.{Acceptance}
 use Rattle.table.specs.declared.Finding.{Finding}
 use Rattle.table.specs.declared.Finding.the-variants.{Sound, Refused}
 use Rattle.table.specs.Table.{Table, lent}
 use Rattle.table.specs.Refusal.{refusal, wrongCondition}
 use Rattle.table.proofs.Sound.{sound-fit}
-use Rattle.job_text.proofs.Puts.{printed-short, printed-whole}
+use Rattle.puts.proofs.Puts.{as-it-was, then-zeros}
 use Rattle.hoa_writer.specs.declared.Written.the-variants as written
 use Rattle.hoa_writer.specs.Written.{hoaText}
 use Rattle.hoa_writer.specs.Writing.{mostWritten, mostWrittenEdges, tooLarge, orElse, writeRefusal, writtenOf, outputOf, Writes}
@@ -86,9 +86,7 @@ module _ (t : Table) (c : Acceptance) (needs out : List ℕ) where
     unfolding then
     refused-short l =
         let short : length out < length (hoaText t c needs) = omega (arith, length-append ys out) in
-        let same : ys ++ out ≡ out =
-        printed-short (hoaText t c needs) out ys n none counted l .buffer
-        ∙ ap (λ (b : Bool). cond b (hoaText t c needs ++ replicate (length out - length (hoaText t c needs)) 0) out) (lt-leb (length (hoaText t c needs)) (length out) short) in
+        let same : ys ++ out ≡ out = as-it-was ys out none in
         rw same (given-by (Refused 11 0) (decided false true sound fits (lt-ltb (length out) (length (hoaText t c needs)) short)))
 
     -- the text, and zeros behind it
@@ -99,6 +97,5 @@ module _ (t : Table) (c : Acceptance) (needs out : List ℕ) where
         let long : length (hoaText t c needs) ≤ length out = omega (arith, length-append ys out) in
         let e : n ≡ length (hoaText t c needs) = omega arith in
         let whole : out'' ≡ hoaText t c needs ++ replicate (length out - length (hoaText t c needs)) 0 =
-        printed-whole (hoaText t c needs) out ys out' out'' n none counted l p z .buffer
-        ∙ ap (λ (b : Bool). cond b (hoaText t c needs ++ replicate (length out - length (hoaText t c needs)) 0) out) (le-leb (length (hoaText t c needs)) (length out) long) in
+        then-zeros (hoaText t c needs) out ys out' out'' n none counted l p z in
         rw (e, whole) (given-by Sound (decided false false sound fits (le-ltb (length out) (length (hoaText t c needs)) long)))

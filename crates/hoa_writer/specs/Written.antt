@@ -11,7 +11,7 @@ use Rattle.table.specs.Table.{Table}
 use Rattle.table.specs.Condition.{need, dealt}
 use Rattle.table.specs.Refusal.{used}
 use Rattle.job_text.specs.Text.{newline}
-use Rattle.job_text.specs.Printed.{decimal}
+use Rattle.puts.specs.Put.{decimal, held, joined}
 use Rattle.hoa_tokens.specs.Bytes.{bytes}
 
 -- ---- pieces
@@ -27,15 +27,6 @@ close = 41
 -- "Lines end in one newline byte"
 abbrev pub line : List ℕ → List ℕ
 line text = text ++ (newline ∷ [])
-
--- a key, a number in decimal digits, and one byte behind it
-abbrev pub held : List ℕ → ℕ → ℕ → List ℕ
-held key n last = (key ++ decimal n) ++ (last ∷ [])
-
--- the texts f 0 up to f (k - 1), one after another
-unfoldable pub joined : (ℕ → List ℕ) → ℕ → List ℕ
-joined f zero = []
-joined f (suc k) = joined f k ++ f k
 
 -- ---- the formula, "without blanks"
 

@@ -4,8 +4,8 @@ use mathlib.Core.List.{List, _++_}
 use Prim.Native.Nat.{ℕ, suc, _≤_, _<_}
 use lib.ListN.{length, getD}
 use Rattle.hoa_tokens.specs.Bytes.{bytes}
-use Rattle.job_text.specs.Printed.{decimal}
-use Rattle.hoa_writer.specs.Written.{line, joined, edgeText}
+use Rattle.puts.specs.Put.{decimal, joined}
+use Rattle.hoa_writer.specs.Written.{line, edgeText}
 use Rattle.hoa_writer.specs.Writing.{mostWrittenEdges}
 
 -- rows 1 to 7 and the limits have passed the edge lists: they are of equal length, not too long, and sorted

@@ -3,13 +3,13 @@
 ghost use mathlib.Core.Path.{_≡_};
 ghost use Prim.Native.Nat.{_+_, _*_, _^_, _≤_, _<_};
 ghost use lib.ListN.{length};
-ghost use Rattle.job_text.specs.Printed.{PutFew};
+ghost use Rattle.puts.specs.Put.{PutFew};
 ghost use Rattle.hoa_writer.specs.Written.{markText, marksText, sigText, edgeText, rowsText};
 ghost use Rattle.hoa_writer.specs.inner.{Passed, edgesText, stateText};
-use crate::puts::put;
-use crate::puts::put_held;
-use crate::puts::put_number;
-use crate::puts::put_word;
+use puts::put;
+use puts::put_held;
+use puts::put_number;
+use puts::put_word;
 
 // One mark of a set, if it has it, behind those below it.
 fn put_mark(out: &mut [u8], at: usize, set: u32, mark: u32) -> usize

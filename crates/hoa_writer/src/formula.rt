@@ -5,10 +5,10 @@ ghost use Prim.Native.Nat.{_+_, _*_, _^_, _≤_, _<_};
 ghost use lib.ListN.{length};
 ghost use Rattle.table.specs.Condition.{dealt};
 ghost use Rattle.table.specs.Refusal.{wrongCondition};
-ghost use Rattle.job_text.specs.Printed.{PutFew};
+ghost use Rattle.puts.specs.Put.{PutFew};
 ghost use Rattle.hoa_writer.specs.Written.{furtherInfs, buchiText, streettPair, furtherStreett, streettText, rabinPair, furtherRabin, rabinText, formula, acceptanceText};
-use crate::puts::put;
-use crate::puts::put_held;
+use puts::put;
+use puts::put_held;
 use table::Acceptance;
 
 // `&Inf(i)` from a mark on, so many of them.

@@ -1,16 +1,15 @@
 // The writer of the Hanoi format (docs/RULES.md, "The Hanoi format"): a table and its condition as a text in a lent buffer.
-// Relies on the crate `table` for rows 1 to 7 and on `job_text` for numbers. What is written is in specs/Written.antt, what the
+// Relies on the crate `table` for rows 1 to 7 and on `puts` for bytes and numbers. What is written is in specs/Written.antt, what the
 // writer gives for every input in specs/Writing.antt.
 mod body;
 mod formula;
-mod puts;
 
 ghost use mathlib.Core.Path.{_≡_};
 ghost use mathlib.Core.Bool.{false};
 ghost use Prim.Native.Nat.{_≤_};
 ghost use Rattle.table.specs.Table.{lent};
 ghost use Rattle.table.specs.Refusal.{refusal, wrongCondition};
-ghost use Rattle.job_text.specs.Printed.{Put, PutFew};
+ghost use Rattle.puts.specs.Put.{Put, PutFew};
 ghost use Rattle.hoa_writer.specs.Written.{hoaText, headText};
 ghost use Rattle.hoa_writer.specs.Writing.{Writes, mostWritten};
 ghost use Rattle.hoa_writer.specs.inner.{Passed};

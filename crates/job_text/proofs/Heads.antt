@@ -8,6 +8,7 @@ use native.Mathlib.Omega.{arith}
 use lib.Dec.{ltb, leb, eqb}
 use lib.ListN.{length, drop}
 use borrow.Author.Tests.{ltb-false, le-ltb, leb-true}
+use Rattle.job_text.specs.declared.value.Form.{Form}
 use Rattle.job_text.specs.declared.value.Kind.{Kind}
 use Rattle.job_text.specs.declared.line.NumberLine.{NumberLine}
 use Rattle.job_text.specs.declared.line.NumberLine.the-variants as numberLine
@@ -15,8 +16,9 @@ use Rattle.job_text.specs.declared.line.Step.{Step}
 use Rattle.job_text.specs.declared.line.Step.the-variants as step
 use Rattle.job_text.specs.declared.reader.Head.{Head as HeadRead}
 use Rattle.job_text.specs.Text.{Lines, lines}
-use Rattle.job_text.specs.Value.{number, kind, needs, mostNumber, mostCount, atMost, leadingZero, spelt, digit}
-use Rattle.job_text.specs.Job.{Keyed, missing, value, keyed, Line, says, fault, limited, formed, asked, above, unlimited, mostJobStates, mostJobEdges, states=, start=, count=, need=, edges=, Found, found, refused, Head, placed, kind=, kindIf, kindLine, countLines, headLines}
+use Rattle.digits.specs.Digit.{digit}
+use Rattle.job_text.specs.Value.{number, needs, mostNumber, mostCount, atMost, leadingZero, spelt}
+use Rattle.job_text.specs.Job.{Keyed, missing, value, keyed, Line, says, fault, limited, formed, asked, above, unlimited, mostJobStates, mostJobEdges, states=, start=, count=, need=, edges=, Found, found, refused, Head, placed, leftOut, perhaps, formLine, kindLine, countLines, stateLines, headLines}
 use Rattle.job_text.specs.Given.{numberSays, stepSays}
 use Rattle.job_text.specs.Reading.{numberFault, stepFault, refusedHead, HeadAt}
 use Rattle.job_text.proofs.Text.{byTest}
@@ -108,34 +110,47 @@ module _ (n s : ℕ) (k : Kind) (place : ℕ) (ls : Lines) where
           → countLines n s k place ls ≡ found (record { states = n; start = s; kind = k; count = c; needs = ds; edges = m }) (place + 3) ps
       edges-go m ps g = rw (e, f, g, three-on)
 
--- ---- the first lines
+-- ---- from the states on
 
-module _ (ls : Lines) where
-  pub states-stop : (x : ℕ) → asked states= number (above mostJobStates) ls ≡ fault x → headLines 1 ls ≡ refused x 1
+module _ (form : Form) (place : ℕ) (ls : Lines) where
+  pub states-stop : (x : ℕ) → asked states= number (above mostJobStates) ls ≡ fault x → stateLines form place ls ≡ refused x place
   states-stop x e = rw e
 
   module _ (n : ℕ) (ms : Lines) (e : asked states= number (above mostJobStates) ls ≡ says n ms) where
-    pub start-stops : (x : ℕ) → asked start= number (above mostNumber) ms ≡ fault x → headLines 1 ls ≡ refused x 2
+    pub start-stops : (x : ℕ) → asked start= number (above mostNumber) ms ≡ fault x → stateLines form place ls ≡ refused x (place + 1)
     start-stops x f = rw (e, ← asked-free start= ms, f)
 
     module _ (s : ℕ) (os : Lines) (f : asked start= number (above mostNumber) ms ≡ says s os) where
-      pub kind-stops : (x p : ℕ) → kindLine 3 os ≡ refused x p → headLines 1 ls ≡ refused x p
-      kind-stops x p g = rw (e, ← asked-free start= ms, f, g)
+      then-on : place + 1 + 1 ≡ place + 2
+      then-on = omega arith
 
-      pub kind-goes : (k : Kind) (p : ℕ) (ps : Lines) → kindLine 3 os ≡ found k p ps → headLines 1 ls ≡ countLines n s k p ps
-      kind-goes k p ps g = rw (e, ← asked-free start= ms, f, g)
+      pub kind-stops : (x p : ℕ) → kindLine form (place + 2) os ≡ refused x p → stateLines form place ls ≡ refused x p
+      kind-stops x p g = rw (e, ← asked-free start= ms, f, then-on, g)
 
--- the kind line is one line, or none
+      pub kind-goes : (k : Kind) (p : ℕ) (ps : Lines) → kindLine form (place + 2) os ≡ found k p ps → stateLines form place ls ≡ countLines n s k p ps
+      kind-goes k p ps g = rw (e, ← asked-free start= ms, f, then-on, g)
+
+-- ---- the form's line
+
+pub form-stops : (place : ℕ) (ls : Lines) (x p : ℕ) → formLine place ls ≡ refused x p → headLines place ls ≡ refused x p
+form-stops place ls x p e = rw e
+
+pub form-goes : (place : ℕ) (ls : Lines) (f : Form) (p : ℕ) (ms : Lines) → formLine place ls ≡ found f p ms → headLines place ls ≡ stateLines f p ms
+form-goes place ls f p ms e = rw e
+
+-- a line that may be left out is one line, or none
 placed-next : {A : Type 0} (place : ℕ) (l : Line A) (a : A) (p : ℕ) (ms : Lines) → placed place l ≡ found a p ms → p ≤ place + 1
 placed-next place (says b ls) a p ms e = let q : place + 1 ≡ p = cc in omega arith
 placed-next place (fault x) a p ms e = absurd (let z : _≡_ {A = ℕ} 0 1 = cc in omega arith)
 
-kind-if-next : (o : Keyed) (place : ℕ) (ls : Lines) (k : Kind) (p : ℕ) (ms : Lines) → kindIf o place ls ≡ found k p ms → p ≤ place + 1
-kind-if-next missing place ls k p ms e = let q : place ≡ p = cc in omega arith
-kind-if-next (value v rest) place ls k p ms e = placed-next place (asked kind= kind unlimited ls) k p ms e
+left-out-next : {A : Type 0} (d : A) (read : Lines → Line A) (o : Keyed) (place : ℕ) (ls : Lines) (a : A) (p : ℕ) (ms : Lines)
+    → leftOut d read o place ls ≡ found a p ms → p ≤ place + 1
+left-out-next d read missing place ls a p ms e = let q : place ≡ p = cc in omega arith
+left-out-next d read (value v rest) place ls a p ms e = placed-next place (read ls) a p ms e
 
-pub kind-next : (place : ℕ) (ls : Lines) (k : Kind) (p : ℕ) (ms : Lines) → kindLine place ls ≡ found k p ms → p ≤ place + 1
-kind-next place ls k p ms e = kind-if-next (keyed kind= ls) place ls k p ms e
+pub perhaps-next : {A : Type 0} (key : List ℕ) (form : List ℕ → Option A) (d : A) (place : ℕ) (ls : Lines) (a : A) (p : ℕ) (ms : Lines)
+    → perhaps key form d place ls ≡ found a p ms → p ≤ place + 1
+perhaps-next key form d place ls a p ms e = left-out-next d (asked key form unlimited) (keyed key ls) place ls a p ms e
 
 -- ---- a head at fault
 

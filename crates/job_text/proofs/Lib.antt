@@ -1,4 +1,3 @@
-pub mod Table
 pub mod Pad
 pub mod Text
 pub mod Values
@@ -7,7 +6,5 @@ pub mod Lines
 pub mod Heads
 pub mod Bodies
 pub mod Jobs
-pub mod Puts
-pub mod Room
 pub mod Promises
 pub mod Examples

@@ -10,9 +10,7 @@ use lib.Seq.{drop-drop, take-take, take-all, take-nil, drop-nil}
 use Rattle.table.specs.Row.{part}
 use Rattle.job_text.specs.Text.{newline, line, lines, same, begins, ahead, FirstAt}
 use Rattle.job_text.specs.declared.line.Span.{Span}
-use Rattle.job_text.specs.Job.{Keyed, missing, value, keyed, says, fault, limited, asked, found, placed, unlimited, kind=, kindIf, kindLine}
-use Rattle.job_text.specs.declared.value.Kind.the-variants.{Buchi}
-use Rattle.job_text.specs.Value.{kind}
+use Rattle.job_text.specs.Job.{Keyed, missing, value, keyed, says, fault, limited, asked, found, placed, unlimited, leftOut, perhaps}
 use Rattle.job_text.specs.Given.{noSpan, SpanAt}
 use Rattle.job_text.proofs.Text.{lines-cut, lines-uncut, unended, same-length}
 
@@ -90,13 +88,13 @@ module _ {A : Type 0} (form : List ℕ → Option A) (over : A → Bool) (text :
 pub span-missing : (text : List ℕ) (at : ℕ) (key : List ℕ) (r : Span) → r ≡ noSpan → keyed key (lines (drop at text)) ≡ missing → SpanAt text at key r
 span-missing text at key r e m = rw e (record { ordered = zero-le; ends = zero-le; is = sym m })
 
--- ---- the kind line may be left out
+-- ---- a line that may be left out
 
-module _ (text : List ℕ) (at place : ℕ) (r : Span) (s : SpanAt text at kind= r) where
-  pub kind-missing : r .found ≡ false → found Buchi place (lines (drop at text)) ≡ kindLine place (lines (drop at text))
-  kind-missing t = rw (← s .is, t)
+module _ {A : Type 0} (form : List ℕ → Option A) (a : A) (text : List ℕ) (at place : ℕ) (key : List ℕ) (r : Span) (s : SpanAt text at key r) where
+  pub perhaps-missing : r .found ≡ false → found a place (lines (drop at text)) ≡ perhaps key form a place (lines (drop at text))
+  perhaps-missing t = rw (← s .is, t)
 
-  pub kind-there : r .found ≡ true → kindLine place (lines (drop at text)) ≡ placed place (asked kind= kind unlimited (lines (drop at text)))
-  kind-there t =
-      let e : keyed kind= (lines (drop at text)) ≡ value (part (r .from) (r .end) text) (lines (drop (r .end + 1) text)) = sym (s .is) ∙ rw t in
-      ap (λ (k : Keyed). kindIf k place (lines (drop at text))) e
+  pub perhaps-there : r .found ≡ true → perhaps key form a place (lines (drop at text)) ≡ placed place (asked key form unlimited (lines (drop at text)))
+  perhaps-there t =
+      let e : keyed key (lines (drop at text)) ≡ value (part (r .from) (r .end) text) (lines (drop (r .end + 1) text)) = sym (s .is) ∙ rw t in
+      ap (λ (k : Keyed). leftOut a (asked key form unlimited) k place (lines (drop at text))) e

@@ -4,11 +4,7 @@ use mathlib.Core.Path.{_≡_, sym, _∙_}
 use mathlib.Core.List.{List}
 use Prim.Native.Nat.{ℕ}
 use Rattle.job_text.specs.declared.reader.Reading.{Reading}
-use Rattle.job_text.specs.declared.printer.Printed.{Printed}
 use Rattle.job_text.specs.Reading.{Read}
-use Rattle.job_text.specs.Printed.{Prints}
-use Rattle.marks.proofs.Unique.{OneResult}
-use Rattle.job_text.proofs.printer.count_digits.Reads as count-digits
 
 -- ---- one result for one input
 
@@ -23,11 +19,3 @@ pub one-reading : (text from to marks f t m f' t' m' : List ℕ) (r s : Reading)
     → SameReading f t m f' t' m' r s
 one-reading text from to marks f t m f' t' m' r s a b =
     record { reading = a .reading ∙ sym (b .reading); froms = a .froms ∙ sym (b .froms); tos = a .tos ∙ sym (b .tos); sets = a .sets ∙ sym (b .sets) }
-
--- an answer gives one printed text
-pub one-print : (text out o o' : List ℕ) (r s : Printed) → Prints text out o r → Prints text out o' s → (r ≡ s) × (o ≡ o')
-one-print text out o o' r s a b = (a .answer ∙ sym (b .answer), a .buffer ∙ sym (b .buffer))
-
--- a number has one count of digits
-pub one-count : OneResult count-digits.Post
-one-count κ a r s e f p q = p ∙ sym q

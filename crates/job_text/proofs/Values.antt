@@ -1,57 +1,20 @@
 -- The values of the job text: digits one after the other, fields one after the other. Assumes nothing.
 use mathlib.Core.Path.{_≡_, refl, ap, _∙_}
-use mathlib.Core.Bool.{Bool, true, false, false≢true, cond}
 use mathlib.Core.List.{List, [], _∷_}
 use mathlib.Core.Option.{Option, some, none}
-use Prim.Native.Nat.{ℕ, _+_, _-_, _*_, _^_, _≤_, _<_}
+use Prim.Native.Nat.{ℕ, _+_, _*_, _^_, _≤_, _<_}
 use native.Mathlib.Nat.{lt-of-lt-of-le}
 use native.Mathlib.Numerals.{add-one}
 use native.Mathlib.Omega.{arith}
-use lib.Dec.{leb}
 use lib.ListN.{length, getD, drop, drop-of-length-le}
 use lib.Pow.{pow-add, pow-mono}
 use lib.Seq.{drop-cons}
-use borrow.Author.Tests.{le-leb, lt-leb, leb-true}
-use Rattle.job_text.specs.Value.{andThen, between, digit, hexDigit, spelt, atMost, number, hexWord, edge, edgeOf}
+use borrow.Author.Tests.{lt-leb}
+use Rattle.job_text.specs.Value.{andThen, spelt, atMost, number, hexWord, edge, edgeOf}
 use Rattle.table.specs.Row.{part}
 use Rattle.job_text.specs.Text.{fields}
 use Rattle.job_text.specs.Given.{Commas2}
-use Rattle.job_text.proofs.Text.{byTest, fields-some}
-
--- ---- digits
-
--- a byte from low to high, or not
-pub within : (low high b : ℕ) → low ≤ b → b ≤ high → between low high b ≡ true
-within low high b l h = rw (le-leb low b l, le-leb b high h)
-
-pub under : (low high b : ℕ) → b < low → between low high b ≡ false
-under low high b l = rw (lt-leb low b l)
-
-pub over : (low high b : ℕ) → high < b → between low high b ≡ false
-over low high b h = byTest (leb low b) (λ e. rw (e, lt-leb b high h)) (λ e. rw e)
-
-inside : (low high b : ℕ) → between low high b ≡ true → (low ≤ b) × (b ≤ high)
-inside low high b e = byTest (leb low b) (λ l. (leb-true low b l, leb-true b high (rw l at e))) (λ l. absurd (false≢true (rw l at e)))
-
--- where an answer is `some`, the test that leads to it held
-gives : {A : Type 0} (t : Bool) (a b : A) → cond t (some a) none ≡ some b → (t ≡ true) × (a ≡ b)
-gives true a b e = (refl, cc)
-gives false a b e = absurd (let z : _≡_ {A = ℕ} 0 1 = cc in omega arith)
-
-pub digit-below : (b d : ℕ) → digit b ≡ some d → d < 10
-unfolding digit
-digit-below b d e =
-    let g : (between 48 57 b ≡ true) × (b - 48 ≡ d) = gives (between 48 57 b) (b - 48) d e in
-    omega (arith, inside 48 57 b (g .0) .1, g .1)
-
-pub hex-below : (b d : ℕ) → hexDigit b ≡ some d → d < 16
-unfolding hexDigit
-hex-below b d e =
-    byTest (between 48 57 b)
-    (λ t. let q : some (b - 48) ≡ some d = rw t at e in let w : b - 48 ≡ d = cc in omega (arith, inside 48 57 b t .1))
-    (λ t.
-    let g : (between 97 102 b ≡ true) × (b - 87 ≡ d) = gives (between 97 102 b) (b - 87) d (rw t at e) in
-    omega (arith, inside 97 102 b (g .0) .1, g .1))
+use Rattle.job_text.proofs.Text.{fields-some}
 
 -- ---- digits one after the other, whatever the base
 

@@ -8,6 +8,9 @@ use lib.ListN.{length, drop}
 use Rattle.job_text.specs.declared.value.Number.{Number}
 use Rattle.job_text.specs.declared.value.Number.the-variants as number
 use Rattle.job_text.specs.declared.value.Kind.{Kind}
+use Rattle.job_text.specs.declared.value.Form.{Form}
+use Rattle.job_text.specs.declared.value.FormWord.{FormWord}
+use Rattle.job_text.specs.declared.value.FormWord.the-variants as formWord
 use Rattle.job_text.specs.declared.value.KindWord.{KindWord}
 use Rattle.job_text.specs.declared.value.KindWord.the-variants as word
 use Rattle.job_text.specs.declared.value.EdgeValue.{EdgeValue}
@@ -18,6 +21,8 @@ use Rattle.job_text.specs.declared.value.NeedList.{NeedList}
 use Rattle.job_text.specs.declared.line.Span.{Span}
 use Rattle.job_text.specs.declared.line.NumberLine.{NumberLine}
 use Rattle.job_text.specs.declared.line.NumberLine.the-variants as numberLine
+use Rattle.job_text.specs.declared.line.FormLine.{FormLine}
+use Rattle.job_text.specs.declared.line.FormLine.the-variants as formLine
 use Rattle.job_text.specs.declared.line.KindLine.{KindLine}
 use Rattle.job_text.specs.declared.line.KindLine.the-variants as kindLine
 use Rattle.job_text.specs.declared.line.EdgeLine.{EdgeLine}
@@ -35,6 +40,10 @@ use Rattle.job_text.specs.Job.{Keyed, missing, value, keyed, Line, says,
 abbrev pub numberGiven : Number → Option ℕ
 numberGiven (number.Value n) = some n
 numberGiven number.Wrong = none
+
+abbrev pub formGiven : FormWord → Option Form
+formGiven (formWord.Form f) = some f
+formGiven formWord.Wrong = none
 
 abbrev pub kindGiven : KindWord → Option Kind
 kindGiven (word.Kind k) = some k
@@ -74,6 +83,10 @@ pub record SpanAt (text : List ℕ) (at : ℕ) (key : List ℕ) (r : Span) : Typ
 abbrev pub numberSays : List ℕ → NumberLine → Line ℕ
 numberSays text (numberLine.Value n next) = says n (lines (drop next text))
 numberSays text (numberLine.Fault number) = fault number
+
+abbrev pub formFound : List ℕ → FormLine → Found Form
+formFound text (formLine.Form f next line) = found f line (lines (drop next text))
+formFound text (formLine.Fault number) = refused number 1
 
 abbrev pub kindFound : List ℕ → KindLine → Found Kind
 kindFound text (kindLine.Kind k next line) = found k line (lines (drop next text))

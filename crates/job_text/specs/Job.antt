@@ -8,9 +8,10 @@ use lib.Dec.{ltb}
 use lib.ListN.{length, drop}
 use Rattle.table.specs.declared.Acceptance.{Acceptance}
 use Rattle.job_text.specs.declared.value.Kind.{Kind}
-use Rattle.job_text.specs.declared.value.Kind.the-variants.{Buchi}
+use Rattle.job_text.specs.declared.value.Form.{Form}
+use Rattle.job_text.specs.declared.value.Form.the-variants.{One}
 use Rattle.job_text.specs.Text.{Lines, done, broken, line, lines, begins}
-use Rattle.job_text.specs.Value.{number, kind, needs, Edge, edge, end, condition, mostCount}
+use Rattle.job_text.specs.Value.{number, textForm, kind, usualKind, needs, Edge, edge, end, condition, mostCount}
 
 -- ---- the limits: "Program limits (23): 256 states, 512 edges, count above what row 4 allows."
 
@@ -101,7 +102,18 @@ over place done = found tt place done
 over place broken = refused 21 place
 over place (line l ls) = refused 21 place
 
+-- a line that may be left out: a line with another key is not this one, and then a is meant
+abbrev pub leftOut : {A : Type 0} → A → (Lines → Line A) → Keyed → Reader A
+leftOut a read missing = give a
+leftOut a read (value v rest) = next read
+
+abbrev pub perhaps : {A : Type 0} → List ℕ → (List ℕ → Option A) → A → Reader A
+perhaps key form a place ls = leftOut a (asked key form unlimited) (keyed key ls) place ls
+
 -- ---- the keys
+
+abbrev pub form= : List ℕ
+form= = 102 ∷ 111 ∷ 114 ∷ 109 ∷ 61 ∷ []
 
 abbrev pub states= : List ℕ
 states= = 115 ∷ 116 ∷ 97 ∷ 116 ∷ 101 ∷ 115 ∷ 61 ∷ []
@@ -129,13 +141,13 @@ end= = 101 ∷ 110 ∷ 100 ∷ 61 ∷ []
 
 -- ---- the job
 
--- "The kind line may be left out; that means buchi."
-abbrev pub kindIf : Keyed → Reader Kind
-kindIf missing = give Buchi
-kindIf (value v rest) = next (asked kind= kind unlimited)
+-- "The first line may be `form=2`.": without it the text is of form 1
+abbrev pub formLine : Reader Form
+formLine = perhaps form= textForm One
 
-abbrev pub kindLine : Reader Kind
-kindLine place ls = kindIf (keyed kind= ls) place ls
+-- "The kind line may be left out; that means buchi, in form 2 streett."
+abbrev pub kindLine : Form → Reader Kind
+kindLine f = perhaps kind= kind (usualKind f)
 
 -- the lines before the edges
 pub record Head : Type 0 where
@@ -154,13 +166,19 @@ countLines n s k = do
   m ← next (asked edges= number (above mostJobEdges))
   give (record { states = n; start = s; kind = k; count = c; needs = ds; edges = m })
 
--- "Keys stand in this order: states, start, kind, .."
-abbrev pub headLines : Reader Head
-headLines = do
+-- ".. states, start, kind, .."
+abbrev pub stateLines : Form → Reader Head
+stateLines f = do
   n ← next (asked states= number (above mostJobStates))
   s ← next (asked start= number unlimited)
-  k ← kindLine
+  k ← kindLine f
   countLines n s k
+
+-- "Keys stand in this order: form, states, .."
+abbrev pub headLines : Reader Head
+headLines = do
+  f ← formLine
+  stateLines f
 
 abbrev pub edgeLines : ℕ → Reader (List Edge)
 edgeLines m = times m (next (asked edge= edge unlimited))

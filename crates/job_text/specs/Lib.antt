@@ -3,4 +3,3 @@ pub mod Value
 pub mod Job
 pub mod Given
 pub mod Reading
-pub mod Printed

@@ -47,7 +47,7 @@ headBy (Refused number place) text h = refused number place
 pub record HeadAt (text : List ℕ) (lines : Found Head) (h : HeadRead) : Type 0 where
   pub is : headBy (h .finding) text h ≡ lines
   pub few : h .edges ≤ mostJobEdges
-  pub early : h .line ≤ 7
+  pub early : h .line ≤ 8
 
 abbrev pub refusedHead : ℕ → ℕ → HeadRead
 refusedHead number place =
@@ -58,7 +58,7 @@ refusedHead number place =
 -- tables that nothing is written in yet
 pub record Blank (edges line : ℕ) (from to marks : List ℕ) : Type 0 where
   pub few : edges ≤ mostJobEdges
-  pub early : line ≤ 7
+  pub early : line ≤ 8
   pub from-blank : from ≡ padTo mostJobEdges []
   pub to-blank : to ≡ padTo mostJobEdges []
   pub marks-blank : marks ≡ padTo mostJobEdges []

@@ -7,9 +7,12 @@ use Prim.Native.Nat.{ℕ, zero, suc, _+_, _-_, _*_}
 use lib.Dec.{leb, ltb, eqb}
 use lib.ListN.{length, getD, replicate}
 use Rattle.marks.specs.Mark.{width}
+use Rattle.digits.specs.Digit.{digit, hexDigit}
 use Rattle.table.specs.declared.Acceptance.{Acceptance}
 use Rattle.table.specs.declared.Acceptance.the-variants as acceptance
 use Rattle.table.specs.Refusal.{mostStreett, mostRabin}
+use Rattle.job_text.specs.declared.value.Form.{Form}
+use Rattle.job_text.specs.declared.value.Form.the-variants.{One, Two}
 use Rattle.job_text.specs.declared.value.Kind.{Kind}
 use Rattle.job_text.specs.declared.value.Kind.the-variants.{Buchi, Streett, Rabin}
 use Rattle.job_text.specs.Text.{fields, same}
@@ -23,17 +26,6 @@ andThen none f = none
 andThen (some a) f = f a
 
 -- ---- digits
-
-abbrev pub between : ℕ → ℕ → ℕ → Bool
-between low high b = leb low b && leb b high
-
--- `0` to `9`
-unfoldable pub digit : ℕ → Option ℕ
-digit b = cond (between 48 57 b) (some (b - 48)) none
-
--- `0` to `9` and `a` to `f`: "lower-case hex digits"
-unfoldable pub hexDigit : ℕ → Option ℕ
-hexDigit b = cond (between 48 57 b) (some (b - 48)) (cond (between 97 102 b) (some (b - 87)) none)
 
 -- the number that digits spell, the first the highest, where the digits before them spell n
 unfoldable pub spelt : (ℕ → Option ℕ) → ℕ → ℕ → List ℕ → Option ℕ
@@ -81,6 +73,11 @@ edgeOf (f ∷ (t ∷ (m ∷ (x ∷ xs)))) = none
 unfoldable pub edge : List ℕ → Option Edge
 edge bs = edgeOf (fields bs)
 
+-- ---- "The first line may be exactly `form=2`."
+
+unfoldable pub textForm : List ℕ → Option Form
+textForm bs = cond (same bs (50 ∷ [])) (some Two) none
+
 -- ---- "Kinds: buchi, streett, rabin."
 
 abbrev pub buchi : List ℕ
@@ -94,6 +91,11 @@ rabin = 114 ∷ 97 ∷ 98 ∷ 105 ∷ 110 ∷ []
 
 unfoldable pub kind : List ℕ → Option Kind
 kind bs = cond (same bs buchi) (some Buchi) (cond (same bs streett) (some Streett) (cond (same bs rabin) (some Rabin) none))
+
+-- what a missing kind line means
+abbrev pub usualKind : Form → Kind
+usualKind One = Buchi
+usualKind Two = Streett
 
 abbrev pub condition : Kind → ℕ → Acceptance
 condition Buchi k = acceptance.Buchi k

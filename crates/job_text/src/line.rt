@@ -2,20 +2,24 @@
 use crate::part::alike;
 use crate::part::find;
 use crate::value::EdgeValue;
+use crate::value::Form;
+use crate::value::FormWord;
 use crate::value::Kind;
 use crate::value::KindWord;
 use crate::value::Number;
 use crate::value::read_edge;
+use crate::value::read_form;
 use crate::value::read_kind;
 use crate::value::read_needs;
 use crate::value::read_number;
+use crate::value::usual_kind;
 ghost use mathlib.Core.Path.{_≡_};
 ghost use Prim.Native.Nat.{_≤_, _<_};
 ghost use lib.ListN.{drop};
 ghost use Rattle.job_text.specs.Text.{lines};
 ghost use Rattle.job_text.specs.Value.{number, edge, needs, end, mostCount};
-ghost use Rattle.job_text.specs.Job.{asked, above, unlimited, need=, edge=, end=, kindLine};
-ghost use Rattle.job_text.specs.Given.{noSpan, SpanAt, numberSays, kindFound, needFault, needSays, edgeSays, endSays};
+ghost use Rattle.job_text.specs.Job.{asked, above, unlimited, need=, edge=, end=, formLine, kindLine};
+ghost use Rattle.job_text.specs.Given.{noSpan, SpanAt, numberSays, formFound, kindFound, needFault, needSays, edgeSays, endSays};
 
 const NEWLINE: u8 = 10;
 
@@ -49,6 +53,12 @@ pub(crate) enum EdgeLine {
     Fault {
         number: u32,
     },
+}
+
+// The form and where the next line begins, with that line's number; or the number of its fault.
+pub(crate) enum FormLine {
+    Form { form: Form, next: usize, line: u32 },
+    Fault { number: u32 },
 }
 
 // The kind and where the next line begins, with that line's number; or the fault and its place.
@@ -123,15 +133,39 @@ pub(crate) fn number_line(text: &[u8], at: usize, key: &[u8], most: u32) -> Numb
     }
 }
 
+// The form's line, which may be left out: the first one.
+pub(crate) fn form_line(text: &[u8]) -> FormLine
+    ensures { λ r. ⌜ formFound (now (text .entry)) r ≡ formLine 1 (lines (now (text .entry))) ⌝ }
+{
+    let span = find_line(text, 0, b"form=");
+    if !span.found {
+        return FormLine::Form {
+            form: Form::One,
+            next: 0,
+            line: 1,
+        };
+    }
+    let from = span.from;
+    let end = span.end;
+    let FormWord::Form(form) = read_form(&text[from..end]) else {
+        return FormLine::Fault { number: MALFORMED };
+    };
+    FormLine::Form {
+        form,
+        next: end + 1,
+        line: 2,
+    }
+}
+
 // The kind line, which may be left out; `line` is its number.
-pub(crate) fn kind_line(text: &[u8], at: usize, line: u32) -> KindLine
+pub(crate) fn kind_line(text: &[u8], at: usize, line: u32, form: Form) -> KindLine
     requires { ⌜ line < 65536 ⌝ }
-    ensures { λ r. ⌜ kindFound (now (text .entry)) r ≡ kindLine line (lines (drop at (now (text .entry)))) ⌝ }
+    ensures { λ r. ⌜ kindFound (now (text .entry)) r ≡ kindLine form line (lines (drop at (now (text .entry)))) ⌝ }
 {
     let span = find_line(text, at, b"kind=");
     if !span.found {
         return KindLine::Kind {
-            kind: Kind::Buchi,
+            kind: usual_kind(form),
             next: at,
             line,
         };

@@ -1,15 +1,18 @@
 // The reader of the job text: line by line, the first fault deciding. Relies on `line` and `value`.
 // The edges are read into arrays of the reader's own and handed over at the end, so that a refusal changes no lent cell.
 use crate::line::EdgeLine;
+use crate::line::FormLine;
 use crate::line::KindLine;
 use crate::line::MISSING;
 use crate::line::NumberLine;
 use crate::line::Step;
 use crate::line::edge_line;
 use crate::line::end_line;
+use crate::line::form_line;
 use crate::line::kind_line;
 use crate::line::need_line;
 use crate::line::number_line;
+use crate::value::Form;
 use crate::value::Kind;
 use crate::value::MOST_NUMBER;
 use table::Acceptance;
@@ -19,7 +22,7 @@ ghost use Prim.Native.Nat.{_≤_, _<_};
 ghost use lib.ListN.{drop};
 ghost use Rattle.job_text.specs.Text.{lines};
 ghost use Rattle.job_text.specs.Value.{mostCount, condition};
-ghost use Rattle.job_text.specs.Job.{countLines, headLines, endLines};
+ghost use Rattle.job_text.specs.Job.{countLines, stateLines, headLines, endLines};
 ghost use Rattle.job_text.specs.Reading.{numberFault, edgeFault, stepFault, refusedHead, HeadAt, Blank, EdgesAt, ending, BodyAt, refusedReading, Read};
 
 // The program's limits; rows 20 and 23.
@@ -121,7 +124,7 @@ fn most_count(kind: Kind) -> u32
 
 // The lines from the count to the number of edges; `line` is the first one's number.
 fn read_counts(text: &[u8], at: usize, line: u32, states: u32, start: u32, kind: Kind) -> Head
-    requires { ⌜ line ≤ 4 ⌝ }
+    requires { ⌜ line ≤ 5 ⌝ }
     ensures { λ r. ⌜ HeadAt (now (text .entry)) (countLines states start kind line (lines (drop at (now (text .entry))))) r ⌝ }
 {
     let counted = number_line(text, at, b"count=", most_count(kind));
@@ -155,17 +158,18 @@ fn read_counts(text: &[u8], at: usize, line: u32, states: u32, start: u32, kind:
     }
 }
 
-// The lines before the edges.
-fn read_head(text: &[u8]) -> Head
-    ensures { λ r. ⌜ HeadAt (now (text .entry)) (headLines 1 (lines (now (text .entry)))) r ⌝ }
+// The lines from the states to the number of edges; `line` is the first one's number.
+fn read_states(text: &[u8], at: usize, line: u32, form: Form) -> Head
+    requires { ⌜ line ≤ 2 ⌝ }
+    ensures { λ r. ⌜ HeadAt (now (text .entry)) (stateLines form line (lines (drop at (now (text .entry))))) r ⌝ }
 {
-    let first = number_line(text, 0, b"states=", MOST_JOB_STATES);
+    let first = number_line(text, at, b"states=", MOST_JOB_STATES);
     let NumberLine::Value {
         value: states,
         next: start_at,
     } = first
     else {
-        return head_refused(number_fault(first), 1);
+        return head_refused(number_fault(first), line);
     };
     let second = number_line(text, start_at, b"start=", MOST_NUMBER);
     let NumberLine::Value {
@@ -173,11 +177,21 @@ fn read_head(text: &[u8]) -> Head
         next: kind_at,
     } = second
     else {
-        return head_refused(number_fault(second), 2);
+        return head_refused(number_fault(second), line + 1);
     };
-    match kind_line(text, kind_at, 3) {
+    match kind_line(text, kind_at, line + 2, form) {
         KindLine::Refused { number, place } => head_refused(number, place),
         KindLine::Kind { kind, next, line } => read_counts(text, next, line, states, start, kind),
+    }
+}
+
+// The lines before the edges.
+fn read_head(text: &[u8]) -> Head
+    ensures { λ r. ⌜ HeadAt (now (text .entry)) (headLines 1 (lines (now (text .entry)))) r ⌝ }
+{
+    match form_line(text) {
+        FormLine::Fault { number } => head_refused(number, 1),
+        FormLine::Form { form, next, line } => read_states(text, next, line, form),
     }
 }
 

@@ -1,13 +1,17 @@
-// The values of the job text, each read from the part of a line that holds it. Relies on `part`.
+// The values of the job text, each read from the part of a line that holds it. Relies on `part` and on the crate `digits`.
 use crate::part::alike;
 use crate::part::find;
+use digits::Digit;
+use digits::digit_value;
+use digits::hex_value;
 ghost use mathlib.Core.Path.{_≡_};
 ghost use Prim.Native.Nat.{_≤_};
 ghost use mathlib.Core.Option.{none};
 ghost use Rattle.table.specs.Refusal.{mostRabin};
 ghost use Rattle.job_text.specs.Text.{fields};
-ghost use Rattle.job_text.specs.Value.{digit, hexDigit, spelt, atMost, mostNumber, leadingZero, number, hexWord, edge, kind, hasNeeds, listed, eight, needs, mostCount};
-ghost use Rattle.job_text.specs.Given.{numberGiven, Commas2, CommasAt, edgeGiven, kindGiven, needsGiven};
+ghost use Rattle.digits.specs.Digit.{digit};
+ghost use Rattle.job_text.specs.Value.{spelt, atMost, mostNumber, leadingZero, number, hexWord, edge, textForm, kind, usualKind, hasNeeds, listed, eight, needs, mostCount};
+ghost use Rattle.job_text.specs.Given.{numberGiven, Commas2, CommasAt, edgeGiven, formGiven, kindGiven, needsGiven};
 
 // The largest number of the job text.
 pub(crate) const MOST_NUMBER: u32 = 65535;
@@ -17,6 +21,17 @@ const COMMA: u8 = 44;
 // A number, or that the bytes are not of its form.
 pub(crate) enum Number {
     Value(u32),
+    Wrong,
+}
+
+// The form of a job text: it says which kind is meant where the kind line is left out.
+pub enum Form {
+    One,
+    Two,
+}
+
+pub(crate) enum FormWord {
+    Form(Form),
     Wrong,
 }
 
@@ -49,95 +64,6 @@ pub(crate) struct NeedList {
     pub needs: [u32; 8],
 }
 
-// The value of a decimal digit.
-pub(crate) fn digit_value(byte: u8) -> Number
-    ensures { λ r. ⌜ numberGiven r ≡ digit byte ⌝ }
-{
-    if byte < b'0' {
-        return Number::Wrong;
-    }
-    if b'9' < byte {
-        return Number::Wrong;
-    }
-    Number::Value((byte - b'0') as u32)
-}
-
-// The values of the bytes from `0` to `f` as hex digits; 16 where the byte is none.
-const HEX: [u8; 55] = [
-    0,
-    1,
-    2,
-    3,
-    4,
-    5,
-    6,
-    7,
-    8,
-    9,
-    16,
-    16,
-    16,
-    16,
-    16,
-    16,
-    16,
-    16,
-    16,
-    16,
-    16,
-    16,
-    16,
-    16,
-    16,
-    16,
-    16,
-    16,
-    16,
-    16,
-    16,
-    16,
-    16,
-    16,
-    16,
-    16,
-    16,
-    16,
-    16,
-    16,
-    16,
-    16,
-    16,
-    16,
-    16,
-    16,
-    16,
-    16,
-    16,
-    10,
-    11,
-    12,
-    13,
-    14,
-    15,
-];
-
-// The value of a hex digit. Nothing else knows the table.
-pub(crate) fn hex_value(byte: u8) -> Number
-    ensures { λ r. ⌜ numberGiven r ≡ hexDigit byte ⌝ }
-{
-    if byte < b'0' {
-        return Number::Wrong;
-    }
-    if b'f' < byte {
-        return Number::Wrong;
-    }
-    let value = HEX[(byte - b'0') as usize];
-    if value == 16 {
-        return Number::Wrong;
-    }
-    Number::Value(value as u32)
-}
-
 // The number that decimal digits spell, if it is not too large.
 fn decimal(bytes: &[u8]) -> Number
     ensures { λ r. ⌜ numberGiven r ≡ atMost mostNumber (spelt digit 10 0 (now (bytes .entry))) ⌝ }
@@ -145,7 +71,7 @@ fn decimal(bytes: &[u8]) -> Number
     let mut value: u32 = 0;
     let mut i = 0;
     while i < bytes.len() {
-        let Number::Value(d) = digit_value(bytes[i]) else {
+        let Digit::Value(d) = digit_value(bytes[i]) else {
             return Number::Wrong;
         };
         value = value * 10 + d;
@@ -190,7 +116,7 @@ pub(crate) fn read_marks(bytes: &[u8]) -> Number
     let mut value: u32 = 0;
     let mut i = 0;
     while i < bytes.len() {
-        let Number::Value(d) = hex_value(bytes[i]) else {
+        let Digit::Value(d) = hex_value(bytes[i]) else {
             return Number::Wrong;
         };
         value = value * 16 + d;
@@ -242,6 +168,26 @@ pub(crate) fn read_edge(bytes: &[u8]) -> EdgeValue
     match find_commas(bytes) {
         Commas::Two { first, second } => read_fields(bytes, first, second),
         Commas::Other => EdgeValue::Wrong,
+    }
+}
+
+// The form's number; a text of form 1 has no line for it.
+pub(crate) fn read_form(bytes: &[u8]) -> FormWord
+    ensures { λ r. ⌜ formGiven r ≡ textForm (now (bytes .entry)) ⌝ }
+{
+    if alike(bytes, b"2") {
+        return FormWord::Form(Form::Two);
+    }
+    FormWord::Wrong
+}
+
+// What a missing kind line means.
+pub(crate) fn usual_kind(form: Form) -> Kind
+    ensures { λ r. ⌜ r ≡ usualKind form ⌝ }
+{
+    match form {
+        Form::One => Kind::Buchi,
+        Form::Two => Kind::Streett,
     }
 }
 

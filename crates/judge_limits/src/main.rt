@@ -135,6 +135,43 @@ fn state_counts() {
     last_loop(b"n = 0: ", 0, 0);
 }
 
+// 4,096 states without an edge: the start is a stop state.
+fn no_edges(label: &[u8], condition: Acceptance) {
+    let none = [0u32; 0];
+    let head = Head {
+        states: 4096,
+        start: 0,
+        condition,
+        needs: NO_NEEDS,
+    };
+    answer(label, head, &none, &none, &none);
+}
+
+// 0>0{0} and 0>arrives{0}; state 1 is a stop state. Under Rabin with as many pairs as given, all with need 0.
+fn stop_beside(label: &[u8], arrives: u32, pairs: u32) {
+    let from = [0u32; 2];
+    let to = [0u32, arrives];
+    let marks = [1u32; 2];
+    let head = Head {
+        states: 2,
+        start: 0,
+        condition: Acceptance::Rabin(pairs),
+        needs: NO_NEEDS,
+    };
+    answer(label, head, &from, &to, &marks);
+}
+
+fn stop_states() {
+    no_edges(b"no edges, Buchi 0: ", Acceptance::Buchi(0));
+    no_edges(b"no edges, Buchi 1: ", Acceptance::Buchi(1));
+    no_edges(b"no edges, Streett 0: ", Acceptance::Streett(0));
+    no_edges(b"no edges, Rabin 1: ", Acceptance::Rabin(1));
+    no_edges(b"no edges, Rabin 0: ", Acceptance::Rabin(0));
+    stop_beside(b"Rabin 2, a stop state in reach: ", 1, 2);
+    stop_beside(b"Rabin 2, a stop state out of reach: ", 0, 2);
+    stop_beside(b"Rabin 1, a stop state out of reach: ", 0, 1);
+}
+
 // Loops of one state, 0>0, with the marks given; `zeros` has a cell for each.
 fn loops(label: &[u8], zeros: &[u32], marks: &[u32], condition: Acceptance, needs: [u32; 8]) {
     let head = Head {
@@ -299,6 +336,7 @@ fn path(label: &[u8], last: u32) {
 
 fn main() {
     state_counts();
+    stop_states();
     edge_counts();
     lent_lengths();
     mark_counts();

@@ -1,48 +1,51 @@
--- Every printed answer fits the buffer: the room's cells are edge numbers below 512 or zeros, and the other numbers are small. Assumes nothing.
+-- Every printed answer fits the buffer: the room's cells are edge numbers below 512, waiting edges or zeros, and the other numbers are small.
+-- Assumes nothing.
 use mathlib.Core.Path.{_≡_, refl, ap}
 use mathlib.Core.Bool.{false}
+use mathlib.Core.Logic.{inl, inr}
 use mathlib.Core.List.{List, [], _∷_, _++_}
 use Prim.Native.Nat.{ℕ, zero, suc, _+_, _-_, _^_, _≤_, _<_}
 use native.Mathlib.Omega.{arith}
-use lib.ListN.{length, getD, replicate, length-replicate}
+use lib.ListN.{length, replicate, length-replicate}
 use Rattle.table.specs.declared.Acceptance.{Acceptance}
 use Rattle.table.specs.declared.Acceptance.the-variants.{Buchi, Streett, Rabin}
 use Rattle.table.specs.declared.Finding.{Finding}
 use Rattle.table.specs.declared.Finding.the-variants.{Sound, Refused}
 use Rattle.table.specs.declared.Verdict.{Verdict}
 use Rattle.table.specs.declared.Verdict.the-variants.{Run, Empty, Refused as RefusedVerdict}
-use Rattle.table.specs.Table.{Table, lent, Walk}
+use Rattle.table.specs.Table.{Table, lent, Step, Walk}
 use Rattle.table.specs.Verdict.{numberOf, placeOf, pairOf}
 use Rattle.table.specs.Refusal.{wrongCondition, refusal}
 use Rattle.table.proofs.Sound.{rabin-few}
 use Rattle.table.proofs.Door.{refused-row}
 use Rattle.marks.proofs.Cases.{below}
 use Rattle.job_text.specs.Job.{mostJobEdges}
-use Rattle.job_text.specs.Printed.{answerText, mostPrinted}
-use Rattle.job_text.proofs.Room.{enough}
+use Rattle.answer_text.specs.Printed.{answerText, mostPrinted}
+use Rattle.answer_text.proofs.Room.{Brief, Briefs, enough}
 use Rattle.judging.specs.Answer.{Given, Named, ByCause}
 use Rattle.judge_text.specs.Replied.{lentRoom, refusedText}
 use Rattle.judge_text.proofs.Lent.{permitted}
 
--- ---- cells that are edge numbers
+-- ---- cells that are edges of a job
 
-abbrev Small : List ℕ → Type 0
-Small xs = (i : ℕ) → getD xs i 0 < 512
+brief-append : (xs ys : List ℕ) → Briefs xs → Briefs ys → Briefs (xs ++ ys)
+brief-append [] ys p q i = q i
+brief-append (x ∷ xs) ys p q zero = p 0
+brief-append (x ∷ xs) ys p q (suc i) = brief-append xs ys (λ k. p (suc k)) q i
 
-small-append : (xs ys : List ℕ) → Small xs → Small ys → Small (xs ++ ys)
-small-append [] ys p q i = q i
-small-append (x ∷ xs) ys p q zero = p 0
-small-append (x ∷ xs) ys p q (suc i) = small-append xs ys (λ k. p (suc k)) q i
+brief-zeros : (n : ℕ) → Briefs (replicate n 0)
+brief-zeros zero i = inl (omega arith)
+brief-zeros (suc n) zero = inl (omega arith)
+brief-zeros (suc n) (suc i) = brief-zeros n i
 
-small-zeros : (n : ℕ) → Small (replicate n 0)
-small-zeros zero i = omega arith
-small-zeros (suc n) zero = omega arith
-small-zeros (suc n) (suc i) = small-zeros n i
+brief-step : (t : Table) → t .edges ≤ mostJobEdges → (e s z : ℕ) → Step t e s z → Brief e
+brief-step t few e s z (inl edge) = inl (omega (arith, edge .listed))
+brief-step t few e s z (inr waits) = inr (waits .number)
 
-small-walk : (t : Table) → t .edges ≤ mostJobEdges → (s : ℕ) (es : List ℕ) (z : ℕ) → Walk t s es z → Small es
-small-walk t few s [] z w i = omega arith
-small-walk t few s (e ∷ es) z w zero = omega (arith, w .1 .0 .listed)
-small-walk t few s (e ∷ es) z w (suc i) = small-walk t few (w .0) es z (w .1 .1) i
+brief-walk : (t : Table) → t .edges ≤ mostJobEdges → (s : ℕ) (es : List ℕ) (z : ℕ) → Walk t s es z → Briefs es
+brief-walk t few s [] z w i = inl (omega arith)
+brief-walk t few s (e ∷ es) z w zero = brief-step t few e s (w .0) (w .1 .0)
+brief-walk t few s (e ∷ es) z w (suc i) = brief-walk t few (w .0) es z (w .1 .1) i
 
 -- ---- an answer's text
 
@@ -52,18 +55,18 @@ record Slight (v : Verdict) (room : List ℕ) : Type 0 where
   place : placeOf v < 2 ^ 32
   pair : pairOf v < 2 ^ 32
   few : length room ≤ lentRoom
-  small : Small room
+  brief : Briefs room
 
 slight-short : (v : Verdict) (c : Acceptance) (room : List ℕ) → Slight v room → length (answerText v c room) ≤ mostPrinted
-slight-short v c room s = enough v c room (s .number) (s .place) (s .pair) (s .few) (s .small)
+slight-short v c room s = enough v c room (s .number) (s .place) (s .pair) (s .few) (s .brief)
 
 -- ---- a refusal
 
-slight-refused : (number place : ℕ) (room : List ℕ) → number < 2 ^ 32 → place < 2 ^ 32 → length room ≤ lentRoom → Small room → Slight (RefusedVerdict number place) room
-slight-refused number place room n p few small = record { number = n; place = p; pair = omega arith; few = few; small = small }
+slight-refused : (number place : ℕ) (room : List ℕ) → number < 2 ^ 32 → place < 2 ^ 32 → length room ≤ lentRoom → Briefs room → Slight (RefusedVerdict number place) room
+slight-refused number place room n p few brief = record { number = n; place = p; pair = omega arith; few = few; brief = brief }
 
 pub refused-fits : (number place : ℕ) → number < 2 ^ 32 → place < 2 ^ 32 → length (refusedText number place) ≤ mostPrinted
-refused-fits number place n p = slight-short (RefusedVerdict number place) (Buchi 0) [] (slight-refused number place [] n p (omega arith) (λ i. omega arith))
+refused-fits number place n p = slight-short (RefusedVerdict number place) (Buchi 0) [] (slight-refused number place [] n p (omega arith) (λ i. inl (omega arith)))
 
 -- ---- an answer
 
@@ -82,15 +85,15 @@ module _ (t : Table) (c : Acceptance) (needs : List ℕ) (few : t .edges ≤ mos
         place = omega arith;
         pair = named-few t c needs (R .cycle) i w (R .named);
         few = omega (arith, G .room-length);
-        small = rw (R .cells) (small-append (R .prefix) _ (small-walk t few (t .start) (R .prefix) (lasso .knot) (lasso .leads))
-            (small-append (R .cycle) _ (small-walk t few (lasso .knot) (R .cycle) (lasso .knot) (lasso .closes)) (small-zeros (length room' - (p + q)))));
+        brief = rw (R .cells) (brief-append (R .prefix) _ (brief-walk t few (t .start) (R .prefix) (lasso .knot) (lasso .leads))
+            (brief-append (R .cycle) _ (brief-walk t few (lasso .knot) (R .cycle) (lasso .knot) (lasso .closes)) (brief-zeros (length room' - (p + q)))));
       }
   given-slight Empty w G = record {
     number = omega arith;
     place = omega arith;
     pair = omega arith;
     few = omega (arith, G .room-length);
-    small = rw (G .decided .1) (small-zeros (length room'));
+    brief = rw (G .decided .1) (brief-zeros (length room'));
   }
   given-slight (RefusedVerdict number place) w G = absurd (G .decided)
 
@@ -107,7 +110,7 @@ module _ (n start : ℕ) (from to marks : List ℕ) (c : Acceptance) (needs : Li
   cause-slight (Refused number place) v e K =
       let row = refused-row (lent n start from to marks) c needs number place e in
       let place-few : place < 2 ^ 32 = below number 5 (λ l. omega (arith, row .whole (omega arith))) (λ l. omega (arith, row .edge l, few)) in
-      rw (K .says, K .room-kept) (slight-refused number place room (omega (arith, row .most)) place-few long (rw is-room (small-zeros lentRoom)))
+      rw (K .says, K .room-kept) (slight-refused number place room (omega (arith, row .most)) place-few long (rw is-room (brief-zeros lentRoom)))
 
   pub answer-fits : (v : Verdict) → ByCause (refusal (lent n start from to marks) c needs) (lent n start from to marks) c needs room room' scratch scratch' v
       → length (answerText v c room') ≤ mostPrinted

@@ -10,7 +10,7 @@ use borrow.Author.Tests.{le-leb, lt-ltb, le-ltb}
 use Rattle.table.specs.Table.{lent}
 use Rattle.job_text.specs.Value.{Edge, padTo}
 use Rattle.job_text.specs.Job.{mostJobStates, mostJobEdges, Job, Outcome, job, fault}
-use Rattle.job_text.specs.Printed.{mostPrinted}
+use Rattle.answer_text.specs.Printed.{mostPrinted}
 use Rattle.hoa_rows.specs.Lent.{fits}
 use Rattle.hoa.specs.declared.Hoa.{Hoa}
 use Rattle.hoa.specs.declared.HoaFinding.{HoaFinding}

@@ -9,12 +9,14 @@ use native.Mathlib.Omega.{arith}
 use lib.Dec.{ltb}
 use lib.ListN.{length}
 use borrow.Author.Tests.{ltb-false}
+use Rattle.job_text.specs.declared.value.Form.{Form}
+use Rattle.job_text.specs.declared.value.Form.the-variants.{One}
 use Rattle.job_text.specs.declared.value.Kind.{Kind}
 use Rattle.job_text.specs.Text.{Lines, done, broken, line, lines}
-use Rattle.job_text.specs.Value.{number, kind, needs, Edge, edge, end, mostCount}
+use Rattle.job_text.specs.Value.{number, textForm, kind, usualKind, needs, Edge, edge, end, mostCount}
 use Rattle.job_text.specs.Job.{mostBytes, mostJobStates, mostJobEdges, above, unlimited, Keyed, missing, value, keyed, Line, says, fault, limited, formed, asked}
 use Rattle.job_text.specs.Job.{Found, found, refused, Reader, placed, next, goOn, _>>=_, give, times, over, states=, start=, kind=, count=, need=, edges=, edge=, end=}
-use Rattle.job_text.specs.Job.{kindIf, kindLine, Head, countLines, headLines, edgeLines, endLines, bodyLines, Job, jobLines, Outcome, job, fault as faulty, outcome, readJob}
+use Rattle.job_text.specs.Job.{leftOut, perhaps, form=, formLine, kindLine, Head, countLines, stateLines, headLines, edgeLines, endLines, bodyLines, Job, jobLines, Outcome, job, fault as faulty, outcome, readJob}
 use Rattle.job_text.proofs.Text.{byTest}
 
 -- the program's limits (23)
@@ -93,12 +95,12 @@ over-fine place done = tt
 over-fine place broken = row21
 over-fine place (line l ls) = row21
 
-kind-fine : (place : ℕ) (ls : Lines) → Fine Any (kindLine place ls)
-kind-fine place ls = by (keyed kind= ls)
+perhaps-fine : {A : Type 0} (key : List ℕ) (form : List ℕ → Option A) (a : A) (place : ℕ) (ls : Lines) → Fine Any (perhaps key form a place ls)
+perhaps-fine {A} key form a place ls = by (keyed key ls)
   where
-    by : (k : Keyed) → Fine Any (kindIf k place ls)
+    by : (k : Keyed) → Fine Any (leftOut a (asked key form unlimited) k place ls)
     by missing = tt
-    by (value v rest) = any-fine kind= kind place ls
+    by (value v rest) = any-fine key form place ls
 
 -- ---- the job
 
@@ -115,14 +117,17 @@ count-fine n s k l place ls =
     (next (asked count= number (above (mostCount k))) place ls)
     (asked-fine Any number (above (mostCount k)) (λ a t. tt) count= place ls)
 
-head-fine : (place : ℕ) (ls : Lines) → Fine HeadLimits (headLines place ls)
-head-fine place ls =
+states-fine : (f : Form) (place : ℕ) (ls : Lines) → Fine HeadLimits (stateLines f place ls)
+states-fine f place ls =
     go-fine (λ n. n ≤ mostJobStates) HeadLimits _
     (λ n l p ms.
     go-fine Any HeadLimits _
-    (λ s u q os. go-fine Any HeadLimits _ (λ k w. count-fine n s k l) (kindLine q os) (kind-fine q os))
+    (λ s u q os. go-fine Any HeadLimits _ (λ k w. count-fine n s k l) (kindLine f q os) (perhaps-fine kind= kind (usualKind f) q os))
     (next (asked start= number unlimited) p ms) (any-fine start= number p ms))
     (next (asked states= number (above mostJobStates)) place ls) (below-fine states= mostJobStates place ls)
+
+head-fine : (place : ℕ) (ls : Lines) → Fine HeadLimits (headLines place ls)
+head-fine place ls = go-fine Any HeadLimits _ (λ f u. states-fine f) (formLine place ls) (perhaps-fine form= textForm One place ls)
 
 end-fine : (place : ℕ) (ls : Lines) → Fine Any (endLines place ls)
 end-fine place ls = go-fine Any Any _ (λ e u p ms. over-fine p ms) (next (asked end= end unlimited) place ls) (any-fine end= end place ls)

@@ -10,7 +10,7 @@ use Rattle.table.specs.declared.Finding.the-variants.{Sound, Refused}
 use Rattle.table.specs.declared.Verdict.the-variants.{Refused as RefusedVerdict}
 use Rattle.table.proofs.Door.{refused-row}
 use Rattle.job_text.specs.Job.{mostBytes, Job, Outcome, job, fault, readJob}
-use Rattle.job_text.specs.Printed.{topText, answerText, mostPrinted}
+use Rattle.answer_text.specs.Printed.{topText, answerText, mostPrinted}
 use Rattle.job_text.proofs.Jobs.{too-long}
 use Rattle.judge_text.specs.Replied.{jobTable, refusedText, JobReply, ReplyTo, Replied}
 use Rattle.judge_text.specs.Reply.{firstCause, RefusedFor, Answered}

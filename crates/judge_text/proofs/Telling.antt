@@ -14,13 +14,13 @@ use Rattle.table.specs.declared.Answer.{Answer}
 use Rattle.table.specs.declared.Finding.{Finding}
 use Rattle.table.specs.declared.Finding.the-variants.{Sound, Refused}
 use Rattle.table.specs.Table.{lent}
-use Rattle.job_text.specs.declared.printer.Printed.{Printed}
-use Rattle.job_text.specs.declared.printer.Printed.the-variants as printed
+use Rattle.answer_text.specs.declared.Printed.{Printed}
+use Rattle.answer_text.specs.declared.Printed.the-variants as printed
 use Rattle.job_text.specs.declared.reader.Reading.{Reading}
 use Rattle.job_text.specs.Value.{Edge, padTo}
 use Rattle.job_text.specs.Job.{mostJobStates, mostJobEdges, Job, Outcome, job, fault, readJob}
 use Rattle.job_text.specs.Reading.{readingOf, cellsOf, Read}
-use Rattle.job_text.specs.Printed.{answerText, mostPrinted, Prints}
+use Rattle.answer_text.specs.Printed.{answerText, mostPrinted, Prints}
 use Rattle.judging.specs.Answer.{ByCause, Answers}
 use Rattle.judge_text.specs.Replied.{edgeCells, jobTable, lentRoom, lentScratch, refusedText, JobReply, ReplyTo, Holds, Replied}
 use Rattle.judge_text.specs.inner.{Judged}

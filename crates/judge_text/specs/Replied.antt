@@ -11,7 +11,7 @@ use Rattle.table.specs.Table.{Table, lent}
 use Rattle.table.specs.Refusal.{refusal}
 use Rattle.job_text.specs.Value.{Edge}
 use Rattle.job_text.specs.Job.{mostJobStates, mostJobEdges, Job, Outcome, job, fault, readJob}
-use Rattle.job_text.specs.Printed.{answerText, mostPrinted}
+use Rattle.answer_text.specs.Printed.{answerText, mostPrinted}
 use Rattle.judging.specs.Answer.{judgeRefusal, Answers}
 
 -- ---- what the judge is asked

@@ -11,7 +11,7 @@ use Rattle.table.specs.declared.Verdict.{Verdict}
 use Rattle.table.specs.declared.Verdict.the-variants.{Run}
 use Rattle.table.specs.Refusal.{refusal}
 use Rattle.job_text.specs.Job.{Job, Outcome, job, fault, readJob}
-use Rattle.job_text.specs.Printed.{topText, bottomText, answerText}
+use Rattle.answer_text.specs.Printed.{topText, bottomText, answerText}
 use Rattle.judging.specs.Answer.{Decided}
 use Rattle.judge_text.specs.Replied.{jobTable, refusedText}
 

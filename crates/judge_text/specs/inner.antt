@@ -5,7 +5,7 @@ use lib.ListN.{replicate}
 use Rattle.table.specs.declared.Acceptance.{Acceptance}
 use Rattle.table.specs.declared.Answer.{Answer}
 use Rattle.table.specs.Table.{Table}
-use Rattle.job_text.specs.Printed.{answerText}
+use Rattle.answer_text.specs.Printed.{answerText}
 use Rattle.judging.specs.Answer.{Answers}
 use Rattle.judge_text.specs.Replied.{lentRoom, lentScratch, Holds}
 

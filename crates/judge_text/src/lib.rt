@@ -1,10 +1,10 @@
 // From bytes to bytes: a job text in, the printed answer out, for every byte string (docs/RULES.md, "The job text and the printed answer"). Reads by
-// `job_text`, judges by `judging`, prints by `job_text`. What a text is answered is in specs/Replied.antt. The same for a text of the Hanoi format, read by
+// `job_text`, judges by `judging`, prints by `answer_text`. What a text is answered is in specs/Replied.antt. The same for a text of the Hanoi format, read by
 // `hoa`: specs/HoaReplied.antt.
+use answer_text::Printed;
+use answer_text::print;
 use hoa::HoaFinding;
 use hoa::read_hoa;
-use job_text::printer::Printed;
-use job_text::printer::print;
 use job_text::reader::read;
 use table::Acceptance;
 use table::Answer;
@@ -12,15 +12,15 @@ use table::Finding;
 use table::Verdict;
 ghost use Prim.Native.Nat.{_≤_};
 ghost use lib.ListN.{length};
-ghost use Rattle.job_text.specs.Printed.{answerText, mostPrinted};
+ghost use Rattle.answer_text.specs.Printed.{answerText, mostPrinted};
 ghost use Rattle.table.specs.Table.{lent};
 ghost use Rattle.job_text.specs.Job.{mostJobStates, mostJobEdges};
 ghost use Rattle.judge_text.specs.Replied.{refusedText, Holds, Replied};
 ghost use Rattle.judge_text.specs.HoaReplied.{HoaReplied};
 ghost use Rattle.judge_text.specs.inner.{Judged};
 
-// No printed answer is longer: at most 8,703 edge numbers of three digits with their commas, and what stands around them.
-pub const MOST_PRINTED: usize = 34932;
+// No printed answer is longer: at most 8,703 edges, numbers of three digits or `stop`, with their commas, and what stands around them.
+pub const MOST_PRINTED: usize = 43635;
 
 // The longest text of the Hanoi format that is judged.
 pub const MOST_HOA: usize = 1048576;

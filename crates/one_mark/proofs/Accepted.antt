@@ -1,4 +1,4 @@
--- The translated table is itself a table: rows 1 to 7 accept it as Büchi 1. Assumes nothing.
+-- The lifted table is itself a table: rows 1 to 7 accept it as Büchi 1. Assumes nothing.
 use mathlib.Core.Path.{_≡_, refl, sym, ap, _∙_, subst}
 use mathlib.Core.List.{[]}
 use Prim.Native.Nat.{ℕ, suc, _+_, _-_, _*_, _/_, _≤_, _<_}
@@ -12,12 +12,11 @@ use Rattle.table.specs.Refusal.{refusal, mostStates, mostEdges, Proper}
 use Rattle.table.proofs.Rows.{sorted-far}
 use Rattle.table.proofs.Sound.{Fit, fit-sound}
 use Rattle.one_mark.specs.Climb.{levels, number, landing}
-use Rattle.one_mark.specs.Place.{rowStart, rowLength, leaves, stateAt, behind, levelAt, under}
-use Rattle.one_mark.specs.Translated.{translated, liftedFrom, liftedTo, liftedMarks}
+use Rattle.one_mark.specs.Place.{rowStart, rowLength, leaves, stateAt, behind, levelAt, edgeAt}
+use Rattle.one_mark.specs.Translated.{lifted, liftedFrom, liftedTo, liftedMarks}
 use Rattle.one_mark.proofs.Climbs.{landing-below, bearing-below}
 use Rattle.one_mark.proofs.Numbers.{number-below, number-up, div-up}
-use Rattle.one_mark.proofs.Order.{sorted}
-use Rattle.one_mark.proofs.Outcomes.{whole-length}
+use Rattle.one_mark.proofs.Order.{sorted, whole-length}
 use Rattle.one_mark.proofs.Position.{stands, some-in-row, cell-at}
 
 module _ (t : Table) (proper : Proper t) (k : ℕ) where
@@ -39,33 +38,33 @@ module _ (t : Table) (proper : Proper t) (k : ℕ) where
       let s = stateAt t k (suc q) in
       rw e (div-up (rowLength t s) (q - rowStart t s * levels k) (suc q - rowStart t s * levels k) (some-in-row t proper k (suc q) l) (omega arith))
 
-  from-at : (q : ℕ) → q < t .edges * levels k → getD (translated t k .from) q 0 ≡ number k (stateAt t k q) (levelAt t k q)
+  from-at : (q : ℕ) → q < t .edges * levels k → getD (lifted t k .from) q 0 ≡ number k (stateAt t k q) (levelAt t k q)
   from-at q l = cell-at t proper k (liftedFrom t k) q l ∙ rw (stands t proper k q l .state)
 
-  from-up : (q : ℕ) → suc q < t .edges * levels k → getD (translated t k .from) q 0 ≤ getD (translated t k .from) (suc q) 0
+  from-up : (q : ℕ) → suc q < t .edges * levels k → getD (lifted t k .from) q 0 ≤ getD (lifted t k .from) (suc q) 0
   from-up q l =
       rw (from-at q (omega arith), from-at (suc q) l)
       (number-up (levels k) (stateAt t k q) (levelAt t k q) (stateAt t k (suc q)) (levelAt t k (suc q)) (stands t proper k q (omega arith) .level) (state-up q l) (level-up q l))
 
   -- ---- its edges lead from states to states
 
-  from-below : (q : ℕ) → q < t .edges * levels k → getD (translated t k .from) q 0 < t .states * levels k
+  from-below : (q : ℕ) → q < t .edges * levels k → getD (lifted t k .from) q 0 < t .states * levels k
   from-below q l =
       let p = stands t proper k q l in
-      let e = under t k q in
+      let e = edgeAt t k q in
       rw (cell-at t proper k (liftedFrom t k) q l) (number-below (t .states) (levels k) (leaves t e) (levelAt t k q) (proper .from-below e (p .edge)) (p .level))
 
-  to-below : (q : ℕ) → q < t .edges * levels k → getD (translated t k .to) q 0 < t .states * levels k
+  to-below : (q : ℕ) → q < t .edges * levels k → getD (lifted t k .to) q 0 < t .states * levels k
   to-below q l =
-      let e = under t k q in
+      let e = edgeAt t k q in
       let j = landing k (borne t e) (levelAt t k q) in
       rw (cell-at t proper k (liftedTo t k) q l)
       (number-below (t .states) (levels k) (getD (t .to) e 0) j (proper .to-below e (stands t proper k q l .edge)) (landing-below k (borne t e) (levelAt t k q)))
 
   -- ---- rows 1 to 7
 
-  pub translated-proper : t .states * levels k ≤ mostStates → t .edges * levels k ≤ mostEdges → Proper (translated t k)
-  translated-proper few few-edges =
+  pub lifted-proper : t .states * levels k ≤ mostStates → t .edges * levels k ≤ mostEdges → Proper (lifted t k)
+  lifted-proper few few-edges =
       record {
         some = mul-pos (proper .some) (omega arith);
         few = few;
@@ -79,20 +78,20 @@ module _ (t : Table) (proper : Proper t) (k : ℕ) where
         sorted = from-up;
       }
 
-  -- the three lists, lent again, are the translated table
-  pub lent-again : lent (t .states * levels k) (number k (t .start) 0) (translated t k .from) (translated t k .to) (translated t k .marks) ≡ translated t k
+  -- the three lists, lent again, are the lifted table
+  pub lent-again : lent (t .states * levels k) (number k (t .start) 0) (lifted t k .from) (lifted t k .to) (lifted t k .marks) ≡ lifted t k
   lent-again =
-      let u = translated t k in
+      let u = lifted t k in
       ap (λ (m : ℕ). record { states = u .states; start = u .start; edges = m; from = u .from; to = u .to; marks = u .marks })
       (whole-length t proper k (liftedFrom t k))
 
-  pub translated-sound : t .states * levels k ≤ mostStates → t .edges * levels k ≤ mostEdges → refusal (translated t k) (Buchi 1) [] ≡ Sound
-  translated-sound few few-edges =
+  pub lifted-sound : t .states * levels k ≤ mostStates → t .edges * levels k ≤ mostEdges → refusal (lifted t k) (Buchi 1) [] ≡ Sound
+  lifted-sound few few-edges =
       subst (λ (u : Table). refusal u (Buchi 1) [] ≡ Sound) lent-again
-      (fit-sound (t .states * levels k) (number k (t .start) 0) (translated t k .from) (translated t k .to) (translated t k .marks) (Buchi 1) []
+      (fit-sound (t .states * levels k) (number k (t .start) 0) (lifted t k .from) (lifted t k .to) (lifted t k .marks) (Buchi 1) []
       (subst (λ (u : Table). Fit u (Buchi 1) []) (sym lent-again)
       (record {
-        proper = translated-proper few few-edges;
+        proper = lifted-proper few few-edges;
         condition = refl;
-        marks-below = λ q l. rw (cell-at t proper k (liftedMarks t k) q l) (bearing-below k (borne t (under t k q)) (levelAt t k q));
+        marks-below = λ q l. rw (cell-at t proper k (liftedMarks t k) q l) (bearing-below k (borne t (edgeAt t k q)) (levelAt t k q));
       })))

@@ -9,6 +9,7 @@ use lib.Pow.{shr-shr}
 use borrow.Author.Tests.{lt-ltb, le-ltb, eq-eqb, ne-eqb}
 use Rattle.marks.specs.Mark.{has}
 use Rattle.marks.proofs.Cases.{same, below}
+use Rattle.marks.proofs.Laws.{has-none}
 use Rattle.one_mark.specs.Climb.{levels, climb, reached, landing, bearing}
 
 -- ---- one step of a climb
@@ -92,6 +93,12 @@ landing-below k x j = lands k x j (λ l e b. omega arith) (λ l e b. omega arith
 
 pub bearing-below : (k x j : ℕ) → bearing k x j < 2
 bearing-below k x j = lands k x j (λ l e b. omega arith) (λ l e b. omega arith)
+
+-- an unmarked edge stays at its level, unmarked
+pub unmarked-stays : (k j : ℕ) → j < k → (landing k 0 j ≡ j) × (bearing k 0 j ≡ 0)
+unmarked-stays k j l =
+    let stay : reached k 0 j ≤ j = below j (reached k 0 j) (λ h. absurd (has-none j (reached-passed k 0 j j (omega arith) h))) (λ h. h) in
+    lands k 0 j (λ m f b. (omega (arith, reached-low k 0 j), b)) (λ m f b. absurd (omega arith))
 
 -- ---- a climb counts the marks in a row: as many as the word has ones at its end, with the word w marks wide
 

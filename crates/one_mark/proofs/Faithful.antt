@@ -1,24 +1,25 @@
 -- The theorems on the translation, for every input that is not refused; and two results allowed for one input are equal. Assumes nothing.
 use mathlib.Core.Path.{_≡_, refl, sym, ap, _∙_}
 use mathlib.Core.List.{List, _++_}
-use Prim.Native.Nat.{ℕ, _-_, _*_, _<_}
+use Prim.Native.Nat.{ℕ, _-_, _*_, _≤_, _<_}
 use native.Mathlib.Omega.{arith}
 use lib.ListN.{length, take, replicate}
 use lib.Seq.{take-at}
 use Rattle.table.specs.Table.{Table, lent}
-use Rattle.table.specs.Refusal.{Proper}
+use Rattle.table.specs.Refusal.{mostEdges, Proper}
 use Rattle.one_mark.specs.declared.Translation.{Translation}
 use Rattle.one_mark.specs.declared.Translation.the-variants.{Made, Refused}
 use Rattle.one_mark.specs.Climb.{levels}
+use Rattle.one_mark.specs.Source.{source}
 use Rattle.one_mark.specs.Translated.{translated, liftedFrom, liftedTo, liftedMarks}
 use Rattle.one_mark.specs.Outcome.{Outcome, answer, numberOf, placeOf, statesOf, edgesOf, startOf}
-use Rattle.one_mark.specs.Faithful.{Positions, Faithful}
-use Rattle.one_mark.proofs.Accepted.{lent-again, translated-sound}
+use Rattle.one_mark.specs.Faithful.{Lifts, Positions, Stops, Faithful}
+use Rattle.one_mark.proofs.Accepted.{lent-again, lifted-sound}
 use Rattle.one_mark.proofs.Answers.{fit, granted, RefusedRow, refused-at}
-use Rattle.one_mark.proofs.Correspond.{one-over, one-under}
-use Rattle.one_mark.proofs.Outcomes.{whole-length}
-use Rattle.one_mark.proofs.Position.{stands, cell-at, place-most, level-place, under-place}
-use Rattle.one_mark.proofs.Turns.{lasso-down, lasso-up}
+use Rattle.one_mark.proofs.Looped.{stop-empty}
+use Rattle.one_mark.proofs.Order.{whole-length}
+use Rattle.one_mark.proofs.Position.{stands, cell-at, place-most, level-place, edge-place}
+use Rattle.one_mark.proofs.Sources.{liftable, under-kept, under-stop, under-left, under-waiting, copies, stop-some, one-over, one-under, lasso-down, lasso-up}
 
 -- ---- two results that the contract allows for one input are equal
 
@@ -41,8 +42,8 @@ one-result t k l a b r r' l' a' b' l'' a'' b'' p q =
 
 -- ---- the position rule
 
-pub positions : (t : Table) → Proper t → (k : ℕ) → Positions t k
-positions t proper k =
+lifts : (t : Table) → Proper t → (k : ℕ) → Lifts t k
+lifts t proper k =
     record {
       edge = λ q l. stands t proper k q l .edge;
       level = λ q l. stands t proper k q l .level;
@@ -50,9 +51,29 @@ positions t proper k =
       to = λ q l. cell-at t proper k (liftedTo t k) q l;
       marks = λ q l. cell-at t proper k (liftedMarks t k) q l;
       place-most = λ e j l h. place-most t proper k e j l h;
-      under-place = λ e j l h. under-place t proper k e j l h;
+      edge-place = λ e j l h. edge-place t proper k e j l h;
       level-place = λ e j l h. level-place t proper k e j l h;
-      place-under = λ q l. stands t proper k q l .here;
+      place-edge = λ q l. stands t proper k q l .here;
+    }
+
+pub positions : (t : Table) → Proper t → (k : ℕ) → source t k .edges * levels k ≤ mostEdges → Positions t k
+positions t proper k few =
+    record {
+      lifts = lifts (source t k) (liftable t proper k few .proper) k;
+      under-edge = λ q some l. under-kept t proper k few q some l;
+      under-stop = λ g s none l e p. under-stop t proper k few g s none l e p;
+      under-other = λ g s none l e p. under-left t proper k few g s none l e p;
+      under-waiting = under-waiting t proper k;
+    }
+
+-- ---- the stop states
+
+stop-states : (t : Table) → Proper t → (k : ℕ) → source t k .edges * levels k ≤ mostEdges → Stops t k
+stop-states t proper k few =
+    record {
+      empty = stop-empty t proper;
+      copies = λ s j some l. copies t proper k few s j some l;
+      none = λ y none p. omega (arith, stop-some t proper k few y p);
     }
 
 -- ---- a table that was made
@@ -64,12 +85,13 @@ faithful n start from to marks k a b c none =
     let g = granted t k a b c (answer t k a b c) refl none in
     let proper = fit n start k from to marks (g .sound) .proper in
     record {
-      table = translated-sound t proper k (g .few) (g .few-edges);
-      positions = positions t proper k;
-      one-over = one-over t proper k;
-      one-under = one-under t proper k;
-      lasso-down = lasso-down t proper k;
-      lasso-up = lasso-up t proper k;
+      table = lifted-sound (source t k) (liftable t proper k (g .few-edges) .proper) k (g .few) (g .few-edges);
+      positions = positions t proper k (g .few-edges);
+      stops = stop-states t proper k (g .few-edges);
+      one-over = one-over t proper k (g .few-edges);
+      one-under = one-under t proper k (g .few-edges);
+      lasso-down = lasso-down t proper k (g .few-edges);
+      lasso-up = lasso-up t proper k (g .few-edges);
     }
 
 -- ---- what the outputs hold
@@ -86,13 +108,15 @@ outputs-hold n start from to marks k l a b r l' a' b' o none =
     let t = lent n start from to marks in
     let g = granted t k (length l) (length a) (length b) r (o .answered) none in
     let proper = fit n start k from to marks (g .sound) .proper in
-    let m = t .edges * levels k in
+    let u = source t k in
+    let fits = liftable t proper k (g .few-edges) .proper in
+    let m = translated t k .edges in
     rw (
       g .made,
-      front (translated t k .from) l l' m (o .from-held ∙ rw (g .made)) (whole-length t proper k (liftedFrom t k)),
-      front (translated t k .to) a a' m (o .to-held ∙ rw (g .made)) (whole-length t proper k (liftedTo t k)),
-      front (translated t k .marks) b b' m (o .marks-held ∙ rw (g .made)) (whole-length t proper k (liftedMarks t k)),
-    ) (lent-again t proper k)
+      front (translated t k .from) l l' m (o .from-held ∙ rw (g .made)) (whole-length u fits k (liftedFrom u k)),
+      front (translated t k .to) a a' m (o .to-held ∙ rw (g .made)) (whole-length u fits k (liftedTo u k)),
+      front (translated t k .marks) b b' m (o .marks-held ∙ rw (g .made)) (whole-length u fits k (liftedMarks u k)),
+    ) (lent-again u fits k)
 
 -- with another number nothing was changed
 pub refused-untouched : (t : Table) (k : ℕ) (l a b : List ℕ) (r : Translation) (l' a' b' : List ℕ)

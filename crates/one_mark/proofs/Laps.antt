@@ -9,13 +9,10 @@ use Rattle.marks.specs.Mark.{has}
 use Rattle.marks.proofs.Cases.{same, below}
 use Rattle.marks.proofs.Laws.{has-none, has-union}
 use Rattle.table.specs.Table.{Table, Walk, borne, marksOf}
-use Rattle.table.specs.Refusal.{Proper}
 use Rattle.one_mark.specs.Climb.{levels, landing, bearing}
-use Rattle.one_mark.specs.Place.{place}
-use Rattle.one_mark.specs.Translated.{translated, liftedMarks}
+use Rattle.one_mark.specs.Translated.{lifted}
 use Rattle.one_mark.proofs.Climbs.{lands, landing-below, reached-low, reached-passed, reached-moves}
-use Rattle.one_mark.proofs.Correspond.{levelAfter, over}
-use Rattle.one_mark.proofs.Position.{cell-place}
+use Rattle.one_mark.proofs.Correspond.{overEdge, levelAfter, over, Liftable, bears-over}
 
 -- how often the edges es, from level j, pass the top
 abbrev pub tops : Table → ℕ → ℕ → List ℕ → ℕ
@@ -109,33 +106,30 @@ module _ (t : Table) (k : ℕ) where
       (λ m lands-at b. absurd (omega arith)))
       (λ some. omega arith)
 
--- ---- the marks of the translated walk tell whether it passes the top
+-- ---- the marks of the lifted walk tell whether it passes the top
 
 one-has : has 0 1
 unfolding has
 one-has = refl
 
-module _ (t : Table) (proper : Proper t) (k : ℕ) where
-  bears-place : (e j : ℕ) → e < t .edges → j < levels k → borne (translated t k) (place t k j e) ≡ bearing k (borne t e) j
-  bears-place e j l h = cell-place t proper k e j l h (liftedMarks t k)
-
-  pub marked-tops : (s j : ℕ) (es : List ℕ) (z : ℕ) → j < levels k → Walk t s es z → has 0 (marksOf (translated t k) (over t k j es)) → 0 < tops t k j es
+module _ (t : Table) (k : ℕ) (lift : Liftable t k) where
+  pub marked-tops : (s j : ℕ) (es : List ℕ) (z : ℕ) → j < levels k → Walk t s es z → has 0 (marksOf (lifted t k) (over t k j es)) → 0 < tops t k j es
   marked-tops s j [] z l w h = absurd (has-none 0 h)
   marked-tops s j (e ∷ es) z l w h =
       let j' = landing k (borne t e) j in
       ⊎-elim
-      (λ (b : has 0 (borne (translated t k) (place t k j e))).
+      (λ (b : has 0 (borne (lifted t k) (overEdge t k j e))).
       lands k (borne t e) j
-      (λ m lands-at none. absurd (has-none 0 (subst (has 0) (bears-place e j (w .1 .0 .listed) l ∙ none) b)))
+      (λ m lands-at none. absurd (has-none 0 (subst (has 0) (bears-over t k lift e s (w .0) j l (w .1 .0) ∙ none) b)))
       (λ m lands-at one. omega arith))
-      (λ (r : has 0 (marksOf (translated t k) (over t k j' es))). omega (arith, marked-tops (w .0) j' es z (landing-below k (borne t e) j) (w .1 .1) r))
-      (has-union 0 (borne (translated t k) (place t k j e)) (marksOf (translated t k) (over t k j' es)) .0 h)
+      (λ (r : has 0 (marksOf (lifted t k) (over t k j' es))). omega (arith, marked-tops (w .0) j' es z (landing-below k (borne t e) j) (w .1 .1) r))
+      (has-union 0 (borne (lifted t k) (overEdge t k j e)) (marksOf (lifted t k) (over t k j' es)) .0 h)
 
-  pub tops-marked : (s j : ℕ) (es : List ℕ) (z : ℕ) → j < levels k → Walk t s es z → 0 < tops t k j es → has 0 (marksOf (translated t k) (over t k j es))
+  pub tops-marked : (s j : ℕ) (es : List ℕ) (z : ℕ) → j < levels k → Walk t s es z → 0 < tops t k j es → has 0 (marksOf (lifted t k) (over t k j es))
   tops-marked s j [] z l w some = absurd (omega arith)
   tops-marked s j (e ∷ es) z l w some =
       let j' = landing k (borne t e) j in
-      has-union 0 (borne (translated t k) (place t k j e)) (marksOf (translated t k) (over t k j' es)) .1
+      has-union 0 (borne (lifted t k) (overEdge t k j e)) (marksOf (lifted t k) (over t k j' es)) .1
       (lands k (borne t e) j
       (λ m lands-at none. inr (tops-marked (w .0) j' es z (landing-below k (borne t e) j) (w .1 .1) (omega arith)))
-      (λ m lands-at one. inl (subst (has 0) (sym (bears-place e j (w .1 .0 .listed) l ∙ one)) one-has)))
+      (λ m lands-at one. inl (subst (has 0) (sym (bears-over t k lift e s (w .0) j l (w .1 .0) ∙ one)) one-has)))

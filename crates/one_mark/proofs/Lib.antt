@@ -5,6 +5,7 @@ pub mod Correspond
 pub mod Faithful
 pub mod Laps
 pub mod Lists
+pub mod Looped
 pub mod Numbers
 pub mod Order
 pub mod Outcomes
@@ -12,5 +13,6 @@ pub mod Pigeon
 pub mod Position
 pub mod RowParts
 pub mod Shifts
+pub mod Sources
 pub mod Turns
 pub mod Wrote

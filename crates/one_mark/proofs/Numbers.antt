@@ -1,6 +1,6 @@
 -- State numbers and positions, as products. Assumes nothing.
 use mathlib.Core.Path.{_≡_, sym, ap, _∙_}
-use Prim.Native.Nat.{ℕ, suc, _+_, _*_, _/_, _%_, _≤_, _<_}
+use Prim.Native.Nat.{ℕ, suc, _+_, _-_, _*_, _/_, _%_, _≤_, _<_}
 use native.Mathlib.Nat.{mul-le-mul-right, le-div-iff-mul-le, div-mul-le-self, le-trans}
 use native.Mathlib.Omega.{arith}
 use lib.Arith.{digits-lt, digits-div, digits-mod}
@@ -32,3 +32,10 @@ number-up K s j s' j' l up level =
 pub number-same : (K s j s' j' : ℕ) → j < K → j' < K → s * K + j ≡ s' * K + j' → (s ≡ s') × (j ≡ j')
 number-same K s j s' j' l l' e =
     (sym (digits-div s l) ∙ ap (λ (x : ℕ). x / K) e ∙ digits-div s' l', sym (digits-mod s l) ∙ ap (λ (x : ℕ). x % K) e ∙ digits-mod s' l')
+
+-- with one level, an edge behind the first of its row stands at its own number
+pub one-level : (a K j w e q : ℕ) → K ≡ 1 → j < K → a ≤ e → a * K + j * w + (e - a) ≡ q → e ≡ q
+one-level a K j w e q one l low whole =
+    let first : j ≡ 0 = omega arith in
+    let plain : a * 1 + 0 * w + (e - a) ≡ q = rw (one, first) at whole in
+    omega arith

@@ -1,11 +1,11 @@
 -- The rows of a table and the order of the translated edges. Assumes nothing.
-use mathlib.Core.Path.{_≡_, refl, sym, ap, _∙_}
+use mathlib.Core.Path.{_≡_, refl, ap, _∙_}
 use mathlib.Core.Bool.{Bool, cond}
-use mathlib.Core.List.{List, [], _∷_, _++_, append-nil}
+use mathlib.Core.List.{List, [], _∷_}
 use Prim.Native.Nat.{ℕ, zero, suc, _+_, _-_, _*_, _≤_, _<_}
 use native.Mathlib.Nat.{zero-add}
 use native.Mathlib.Omega.{arith}
-use lib.ListN.{length, getD, length-append}
+use lib.ListN.{length, getD}
 use borrow.Author.Tests.{lt-ltb, le-ltb}
 use Rattle.marks.proofs.Cases.{below}
 use Rattle.table.specs.Table.{Table}
@@ -14,7 +14,7 @@ use Rattle.table.specs.Row.{Row}
 use Rattle.table.proofs.Rows.{Sorted, sorted-far, Begins}
 use Rattle.one_mark.specs.Climb.{levels}
 use Rattle.one_mark.specs.Place.{front, rowStart, rowLength, each, levelCells, rowCells, inOrder}
-use Rattle.one_mark.proofs.Lists.{length-cells, cells-at, no-cells, each-even, each-split, each-length, each-at}
+use Rattle.one_mark.proofs.Lists.{length-cells, cells-at, each-even, each-length, each-at}
 use Rattle.one_mark.proofs.Numbers.{level-fits}
 
 -- ---- the front of a list
@@ -25,7 +25,7 @@ front-more s x xs l = ap (λ (b : Bool). cond b (suc (front s xs)) 0) (lt-ltb x 
 front-none : (s x : ℕ) (xs : List ℕ) → s ≤ x → front s (x ∷ xs) ≡ 0
 front-none s x xs l = ap (λ (b : Bool). cond b (suc (front s xs)) 0) (le-ltb x s l)
 
-front-most : (s : ℕ) (xs : List ℕ) → front s xs ≤ length xs
+pub front-most : (s : ℕ) (xs : List ℕ) → front s xs ≤ length xs
 front-most s [] = omega arith
 front-most s (x ∷ xs) = below x s (λ l. omega (arith, front-more s x xs l, front-most s xs)) (λ l. omega (arith, front-none s x xs l))
 
@@ -36,7 +36,7 @@ front-up s (x ∷ xs) =
     (λ l. omega (arith, front-more s x xs l, front-more (suc s) x xs (omega arith), front-up s xs))
     (λ l. omega (arith, front-none s x xs l))
 
-front-zero : (xs : List ℕ) → front 0 xs ≡ 0
+pub front-zero : (xs : List ℕ) → front 0 xs ≡ 0
 front-zero [] = refl
 front-zero (x ∷ xs) = front-none 0 x xs (omega arith)
 
@@ -69,25 +69,6 @@ pub begins-front : (from : List ℕ) (s a : ℕ) → Sorted from → Begins from
 begins-front from s a up b =
     let f = front-begins s from up in
     omega (arith, begins-once from s a (front s from) b f, begins-once from s (front s from) a f b)
-
--- ---- between the rows
-
--- the edges before a leave smaller states than the others
-pub record Cut (from : List ℕ) (a : ℕ) : Type 0 where
-  pub within : a ≤ length from
-  pub apart : (e f : ℕ) → e < a → a ≤ f → f < length from → getD from e 0 < getD from f 0
-
-pub begins-cut : (from : List ℕ) (s a : ℕ) → Begins from s a → Cut from a
-begins-cut from s a b = record { within = b .within; apart = λ e f l m h. omega (arith, b .smaller e l, b .larger f m h) }
-
--- there the row of the next edge's state begins
-pub cut-begins : (from : List ℕ) (a : ℕ) → Sorted from → Cut from a → a < length from → Begins from (getD from a 0) a
-cut-begins from a up cut l =
-    record {
-      within = cut .within;
-      smaller = λ e h. cut .apart e a h (omega arith) l;
-      larger = λ e m h. let far : a + (e - a) ≡ e = omega arith in rw far at (sorted-far from up a (e - a) (omega arith));
-    }
 
 module _ (t : Table) (proper : Proper t) where
   pub sorted : Sorted (t .from)
@@ -135,21 +116,6 @@ module _ (t : Table) (k : ℕ) (f : ℕ → ℕ → ℕ) where
   order-length s =
       omega (arith, each-length (rowCells t k f) (λ i. rowStart t i * levels k) row-next 0 s, none-before, ap (λ (i : ℕ). rowStart t i * levels k) (zero-add s))
 
-  none-between : (s d : ℕ) → rowStart t s ≡ rowStart t (s + d) → each (rowCells t k f) 0 s ≡ each (rowCells t k f) 0 (s + d)
-  none-between s d e =
-      let rest = each (rowCells t k f) (0 + s) d in
-      let split = each-split (rowCells t k f) 0 s d in
-      let both = length-append (each (rowCells t k f) 0 s) rest in
-      let long : length rest ≡ 0 = omega (arith, ap length split, both, order-length s, order-length (s + d), ap (λ (i : ℕ). i * levels k) e) in
-      sym (split ∙ ap (λ xs. each (rowCells t k f) 0 s ++ xs) (no-cells rest long) ∙ append-nil (each (rowCells t k f) 0 s))
-
-  -- states without edges add nothing
-  pub order-same : (s s' : ℕ) → rowStart t s ≡ rowStart t s' → each (rowCells t k f) 0 s ≡ each (rowCells t k f) 0 s'
-  order-same s s' e =
-      below s s'
-      (λ l. let far : s + (s' - s) ≡ s' = omega arith in rw far at (none-between s (s' - s) (e ∙ rw far)))
-      (λ l. let far : s' + (s - s') ≡ s = omega arith in sym (rw far at (none-between s' (s - s') (sym e ∙ rw far))))
-
   -- place i of the row of s at level j
   pub order-cell : (s j i : ℕ) → s < t .states → j < levels k → i < rowLength t s
       → getD (inOrder t k f) (rowStart t s * levels k + j * rowLength t s + i) 0 ≡ f j (rowStart t s + i)
@@ -161,3 +127,7 @@ module _ (t : Table) (k : ℕ) (f : ℕ → ℕ → ℕ) where
       let at-level = each-at (levelCells t f s) (λ h. h * w) (λ h. omega (arith, level-length s h)) 0 (levels k) j i (j * w + i)
       (omega arith) (omega arith) (omega (arith, level-length s j)) (omega arith) in
       at-state ∙ at-level ∙ cells-at (f j) (rowStart t s) w i li
+
+-- the lifted lists have m·K cells
+pub whole-length : (t : Table) → Proper t → (k : ℕ) (f : ℕ → ℕ → ℕ) → length (inOrder t k f) ≡ t .edges * levels k
+whole-length t proper k f = order-length t k f (t .states) ∙ rw (rows-end t proper)

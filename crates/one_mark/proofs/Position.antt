@@ -1,5 +1,5 @@
 -- The position rule (docs/RULES.md, "One-mark translation": "The source edge under a translated edge follows from its position"): an edge at a level stands at `place`,
--- the edge and the level at a position are `under` and `levelAt`, and every cell is what the definition gives for them. Assumes nothing.
+-- the edge and the level at a position are `edgeAt` and `levelAt`, and every cell is what the definition gives for them. Assumes nothing.
 use mathlib.Core.Path.{_≡_, sym, ap, _∙_, subst}
 use Prim.Native.Nat.{ℕ, suc, _+_, _-_, _*_, _/_, _%_, _≤_, _<_}
 use native.Mathlib.Nat.{div-lt-iff-lt-mul, le-div-iff-mul-le, div-add-mod', mod-lt, mul-le-mul-right}
@@ -10,7 +10,8 @@ use Rattle.marks.proofs.Cases.{below}
 use Rattle.table.specs.Table.{Table}
 use Rattle.table.specs.Refusal.{Proper}
 use Rattle.one_mark.specs.Climb.{levels}
-use Rattle.one_mark.specs.Place.{rowStart, rowLength, inOrder, leaves, place, stateAt, behind, levelAt, under}
+use Rattle.one_mark.specs.Place.{rowStart, rowLength, inOrder, leaves, place, stateAt, behind, levelAt, edgeAt}
+use Rattle.one_mark.proofs.Numbers.{one-level}
 use Rattle.one_mark.proofs.Order.{table-row, order-cell, front-up}
 
 -- position q is that of edge e, taken at level j
@@ -53,8 +54,8 @@ module _ (t : Table) (proper : Proper t) (k : ℕ) where
       let listed : e < t .edges = div-lt-iff-lt-mul some-level .1 l in
       omega (arith, row-edges (leaves t e), row-from e listed, row-to e listed)
 
-  pub stands : (q : ℕ) → q < t .edges * levels k → Stands t k q (levelAt t k q) (under t k q)
-  unfolding levelAt under behind stateAt
+  pub stands : (q : ℕ) → q < t .edges * levels k → Stands t k q (levelAt t k q) (edgeAt t k q)
+  unfolding levelAt edgeAt behind stateAt
   stands q l =
       let e = q / levels k in
       let s = leaves t e in
@@ -98,8 +99,8 @@ module _ (t : Table) (proper : Proper t) (k : ℕ) where
     unfolding levelAt
     at-level = rw (at-behind, at-state) (digits-div j inside)
 
-    at-edge : under t k position ≡ rowStart t s + r
-    unfolding under
+    at-edge : edgeAt t k position ≡ rowStart t s + r
+    unfolding edgeAt
     at-edge = rw (at-behind, at-state) (ap (λ (x : ℕ). rowStart t s + x) (digits-mod j inside))
 
     at-most : position < t .edges * levels k
@@ -120,9 +121,9 @@ module _ (t : Table) (proper : Proper t) (k : ℕ) where
     unfolding place
     level-place = at-level (leaves t e) j (e - rowStart t (leaves t e)) level offset
 
-    pub under-place : under t k (place t k j e) ≡ e
+    pub edge-place : edgeAt t k (place t k j e) ≡ e
     unfolding place
-    under-place = at-edge (leaves t e) j (e - rowStart t (leaves t e)) level offset ∙ omega (arith, row-from e listed)
+    edge-place = at-edge (leaves t e) j (e - rowStart t (leaves t e)) level offset ∙ omega (arith, row-from e listed)
 
     -- the cell there
     pub cell-place : (f : ℕ → ℕ → ℕ) → getD (inOrder t k f) (place t k j e) 0 ≡ f j e
@@ -132,7 +133,15 @@ module _ (t : Table) (proper : Proper t) (k : ℕ) where
         ∙ ap (f j) (omega (arith, row-from e listed))
 
   -- the cell at a position
-  pub cell-at : (f : ℕ → ℕ → ℕ) (q : ℕ) → q < t .edges * levels k → getD (inOrder t k f) q 0 ≡ f (levelAt t k q) (under t k q)
+  pub cell-at : (f : ℕ → ℕ → ℕ) (q : ℕ) → q < t .edges * levels k → getD (inOrder t k f) q 0 ≡ f (levelAt t k q) (edgeAt t k q)
   cell-at f q l =
       let p = stands q l in
-      ap (λ (x : ℕ). getD (inOrder t k f) x 0) (sym (p .here)) ∙ cell-place (under t k q) (levelAt t k q) (p .edge) (p .level) f
+      ap (λ (x : ℕ). getD (inOrder t k f) x 0) (sym (p .here)) ∙ cell-place (edgeAt t k q) (levelAt t k q) (p .edge) (p .level) f
+
+  -- with one level, every edge stands at its own number
+  pub edge-plain : levels k ≡ 1 → (q : ℕ) → q < t .edges * levels k → edgeAt t k q ≡ q
+  unfolding place
+  edge-plain one q l =
+      let p = stands q l in
+      let e = edgeAt t k q in
+      one-level (rowStart t (leaves t e)) (levels k) (levelAt t k q) (rowLength t (leaves t e)) e q one (p .level) (row-from e (p .edge)) (p .here)

@@ -2,8 +2,12 @@
 use mathlib.Core.Path.{refl}
 use Rattle.table.proofs.Shifts.{shift-cases}
 use Rattle.one_mark.specs.Climb.{reached, landing, bearing}
-use Rattle.one_mark.specs.Shifts.{FourteenCases}
+use Rattle.one_mark.specs.Shifts.{FourteenCases, HaltingCases}
 
 pub fourteen-cases : FourteenCases
 unfolding reached landing bearing
 fourteen-cases = record { cases-1-to-13 = shift-cases; case-14 = refl }
+
+pub halting-cases : HaltingCases
+unfolding reached landing bearing
+halting-cases = record { no-marks = refl; one-mark = refl }

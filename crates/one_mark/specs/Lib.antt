@@ -1,5 +1,6 @@
 pub mod Climb
 pub mod Place
+pub mod Source
 pub mod Translated
 pub mod Writing
 pub mod Outcome

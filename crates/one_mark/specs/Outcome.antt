@@ -3,7 +3,7 @@
 use mathlib.Core.Path.{_≡_}
 use mathlib.Core.Bool.{Bool, _||_, cond}
 use mathlib.Core.List.{List, [], _++_}
-use Prim.Native.Nat.{ℕ, _-_, _*_}
+use Prim.Native.Nat.{ℕ, _-_, _*_, _≤_}
 use lib.Dec.{ltb}
 use lib.ListN.{length, replicate}
 use Rattle.table.specs.declared.Acceptance.the-variants.{Buchi}
@@ -13,7 +13,7 @@ use Rattle.table.specs.Table.{Table, lent}
 use Rattle.table.specs.Refusal.{refusal, mostStates, mostEdges, Proper}
 use Rattle.one_mark.specs.declared.Translation.{Translation}
 use Rattle.one_mark.specs.declared.Translation.the-variants.{Made, Refused}
-use Rattle.one_mark.specs.Climb.{levels, number}
+use Rattle.one_mark.specs.Source.{source}
 use Rattle.one_mark.specs.Translated.{translated}
 use Rattle.one_mark.specs.Writing.{Ladder, Room}
 
@@ -30,13 +30,13 @@ abbrev pub unless : Finding → Translation → Translation
 unless Sound r = r
 unless (Faulty number place) r = Refused number place
 
--- the first cause of rows 1 to 7, with k read as a Büchi count; then 10; then 11; then both counts and the new start
+-- the first cause of rows 1 to 7, with k read as a Büchi count; then 10; then 11; then both counts and the new start of the translated table
 abbrev pub answer : Table → ℕ → ℕ → ℕ → ℕ → Translation
 answer t k a b c =
     unless (refusal t (Buchi k) [])
-    (cond (large (t .states * levels k) (t .edges * levels k)) (Refused 10 0)
-    (cond (short (t .edges * levels k) a b c) (Refused 11 0)
-    (Made (t .states * levels k) (t .edges * levels k) (number k (t .start) 0))))
+    (cond (large (translated t k .states) (translated t k .edges)) (Refused 10 0)
+    (cond (short (translated t k .edges) a b c) (Refused 11 0)
+    (Made (translated t k .states) (translated t k .edges) (translated t k .start))))
 
 -- what a lent output holds: after a table was made its list and then zeros; after a refusal what it held
 abbrev pub held : Translation → List ℕ → List ℕ → List ℕ
@@ -55,14 +55,15 @@ pub record Outcome (t : Table) (k : ℕ) (leaves arrives bears : List ℕ) (r : 
 pub record Ready (n k K edges : ℕ) (from to marks leaves arrives bears : List ℕ) : Type 0 where
   pub ladder : Ladder n k K
   pub proper : Proper (lent n 0 from to marks)
-  pub count : edges ≡ length from * K
+  pub count : edges ≡ source (lent n 0 from to marks) k .edges * K
+  pub few-edges : edges ≤ mostEdges
   pub room : Room 0 edges leaves arrives bears
 
--- the translated lists, then zeros
-pub record Filled (t : Table) (k : ℕ) (leaves arrives bears leaves' arrives' bears' : List ℕ) : Type 0 where
-  pub from-filled : leaves' ≡ translated t k .from ++ replicate (length leaves - length (translated t k .from)) 0
-  pub to-filled : arrives' ≡ translated t k .to ++ replicate (length arrives - length (translated t k .to)) 0
-  pub marks-filled : bears' ≡ translated t k .marks ++ replicate (length bears - length (translated t k .marks)) 0
+-- the lists of the table that was made, then zeros
+pub record Filled (made : Table) (leaves arrives bears leaves' arrives' bears' : List ℕ) : Type 0 where
+  pub from-filled : leaves' ≡ made .from ++ replicate (length leaves - length (made .from)) 0
+  pub to-filled : arrives' ≡ made .to ++ replicate (length arrives - length (made .to)) 0
+  pub marks-filled : bears' ≡ made .marks ++ replicate (length bears - length (made .marks)) 0
 
 -- ---- the rules' number, place, counts and new start for each answer. The number is 0 exactly if a table was made (`Faithful.outputs-hold` and
 -- `Faithful.refused-untouched`, in proofs/, go by it)

@@ -51,6 +51,9 @@ inOrder t k f = each (rowCells t k f) 0 (t .states)
 abbrev pub leaves : Table → ℕ → ℕ
 leaves t e = getD (t .from) e 0
 
+abbrev pub arrives : Table → ℕ → ℕ
+arrives t e = getD (t .to) e 0
+
 unfoldable pub place : Table → ℕ → ℕ → ℕ → ℕ
 place t k j e = rowStart t (leaves t e) * levels k + j * rowLength t (leaves t e) + (e - rowStart t (leaves t e))
 
@@ -66,6 +69,6 @@ behind t k q = q - rowStart t (stateAt t k q) * levels k
 unfoldable pub levelAt : Table → ℕ → ℕ → ℕ
 levelAt t k q = behind t k q / rowLength t (stateAt t k q)
 
--- the source edge under the translated edge at position q
-unfoldable pub under : Table → ℕ → ℕ → ℕ
-under t k q = rowStart t (stateAt t k q) + behind t k q % rowLength t (stateAt t k q)
+-- the edge that is taken there
+unfoldable pub edgeAt : Table → ℕ → ℕ → ℕ
+edgeAt t k q = rowStart t (stateAt t k q) + behind t k q % rowLength t (stateAt t k q)

@@ -1,8 +1,8 @@
 -- What the writing functions ask and promise: cells written one behind the other, the rest as it was. Assumes nothing.
 use mathlib.Core.Path.{_≡_}
-use mathlib.Core.List.{List}
-use Prim.Native.Nat.{ℕ, _+_, _*_, _≤_, _<_}
-use lib.ListN.{length, getD}
+use mathlib.Core.List.{List, _++_}
+use Prim.Native.Nat.{ℕ, suc, _+_, _-_, _*_, _≤_, _<_}
+use lib.ListN.{length, getD, replicate}
 use lib.Seq.{sets}
 use Rattle.marks.specs.Mark.{width}
 use Rattle.table.specs.Table.{Table}
@@ -57,7 +57,19 @@ abbrev pub RowWritten : ℕ → ℕ → ℕ → ℕ → List ℕ → List ℕ �
 RowWritten k s h at to marks leaves arrives bears leaves' arrives' bears' =
     Wrote at (each (partFrom k s to) 0 h) (each (partTo k to marks) 0 h) (each (partMarks k to marks) 0 h) leaves arrives bears leaves' arrives' bears'
 
+-- with k = 0 a row `to` without edges is that of a stop state and gets a loop: the list xs, and x for the loop
+abbrev pub orLoop : ℕ → List ℕ → ℕ → List ℕ → List ℕ
+orLoop k to x xs = xs ++ replicate (1 - (k + length to)) x
+
+-- its edges, or its loop, were written at all K levels
+abbrev pub StateWritten : ℕ → ℕ → ℕ → ℕ → List ℕ → List ℕ → List ℕ → List ℕ → List ℕ → List ℕ → List ℕ → List ℕ → Type 0
+StateWritten k s K at to marks = RowWritten k s K at (orLoop k to s to) (orLoop k to 0 marks)
+
 -- ---- the whole table
+
+-- the from states never decrease
+abbrev pub Rising : List ℕ → Type 0
+Rising from = (e : ℕ) → suc e < length from → getD from e 0 ≤ getD from (suc e) 0
 
 -- the rows of the first h states were written
 abbrev pub StatesWritten : Table → ℕ → ℕ → List ℕ → List ℕ → List ℕ → List ℕ → List ℕ → List ℕ → Type 0

@@ -1,12 +1,14 @@
 // The one-mark translation (docs/RULES.md, "One-mark translation"): a table with k marks, read as Büchi k, becomes one with one mark, read as
 // Büchi 1, whose accepted lassos lie over those of the first. Relies on `table` for rows 1 to 7 and for the rows of a table.
 mod lift;
+mod stops;
 
 use lift::Shape;
 use lift::level_count;
 use lift::lift_table;
 use lift::number_of;
 use marks::Marks;
+use stops::source_count;
 use table::Acceptance;
 use table::Finding;
 use table::MOST_EDGES;
@@ -16,6 +18,7 @@ ghost use Prim.Native.Nat.{_-_, _≤_};
 ghost use lib.ListN.{length, replicate};
 ghost use lib.Seq.{sets};
 ghost use Rattle.table.specs.Table.{lent};
+ghost use Rattle.one_mark.specs.Translated.{translated};
 ghost use Rattle.one_mark.specs.Outcome.{Outcome, Ready, Filled, answer, large, short};
 
 // What the translation answers: both counts and the new start, or why it refuses, with number and place.
@@ -81,7 +84,7 @@ fn foresee(
     }
     let levels = level_count(k);
     let states = n * levels;
-    let edges = from.len() * (levels as usize);
+    let edges = source_count(n, from, k) * (levels as usize);
     if too_large(states, edges) {
         return refused(10);
     }
@@ -128,7 +131,7 @@ fn fill(
 )
     requires { ⌜ Ready (shape .states) (shape .k) (shape .levels) edges (now from) (now to) (now marks) (now leaves) (now arrives) (now bears) ⌝ }
     ensures { λ _.
-        ⌜ Filled (lent (shape .states) 0 (now (from .entry)) (now (to .entry)) (now (marks .entry))) (shape .k)
+        ⌜ Filled (translated (lent (shape .states) 0 (now (from .entry)) (now (to .entry)) (now (marks .entry))) (shape .k))
         (now (leaves .entry)) (now (arrives .entry)) (now (bears .entry)) (now (leaves .exit)) (now (arrives .exit)) (now (bears .exit)) ⌝ }
 {
     lift_table(shape, from, to, marks, leaves, arrives, bears);

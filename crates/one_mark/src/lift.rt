@@ -1,15 +1,18 @@
-// Writes the translated edges: climbs, then the levels of a row, then the rows, then the whole table.
+// Writes the translated edges: climbs, then the levels of a row, then what stands for a state, then the whole table.
 // Relies on `table` for the rows. What the three outputs hold is in specs/Translated.antt, what each function asks in specs/Writing.antt.
+use crate::stops::loops;
 use marks::Marks;
 use table::row::run;
 ghost use mathlib.Core.Path.{_≡_};
+ghost use mathlib.Core.List.{[], _∷_};
 ghost use Prim.Native.Nat.{_+_, _*_, _≤_, _<_};
 ghost use lib.ListN.{length};
 ghost use Rattle.marks.specs.Mark.{width};
 ghost use Rattle.table.specs.Table.{lent};
 ghost use Rattle.table.specs.Refusal.{Proper};
 ghost use Rattle.one_mark.specs.Climb.{levels, number, reached, landing, bearing};
-ghost use Rattle.one_mark.specs.Writing.{Ladder, Room, RowAsked, LevelWritten, RowWritten, StatesWritten};
+ghost use Rattle.one_mark.specs.Source.{source};
+ghost use Rattle.one_mark.specs.Writing.{Wrote, Ladder, Room, RowAsked, LevelWritten, RowWritten, orLoop, StateWritten, StatesWritten};
 
 // What all of a translation goes by: the number of states, the number k of marks and the number K of levels.
 pub(crate) struct Shape {
@@ -143,7 +146,45 @@ fn lift_row(
     next
 }
 
-// Writes all translated edges, row by row: a state without edges takes no time.
+// Writes the marked loop of a stop state at place `at`: with k = 0 it is the state's only edge.
+fn write_loop(state: u32, at: usize, leaves: &mut [u32], arrives: &mut [u32], bears: &mut [Marks])
+    requires { ⌜ Room at 1 (now leaves) (now arrives) (now bears) ⌝ }
+    ensures { λ _.
+        ⌜ Wrote at (state ∷ []) (state ∷ []) (1 ∷ [])
+        (now (leaves .entry)) (now (arrives .entry)) (now (bears .entry)) (now (leaves .exit)) (now (arrives .exit)) (now (bears .exit)) ⌝ }
+{
+    leaves[at] = state;
+    arrives[at] = state;
+    bears[at] = 1;
+}
+
+// Writes what stands for a state from place `at` on: the edges of its row, or with k = 0 the loop of a stop state; answers with the place behind.
+fn lift_state(
+    state: u32,
+    shape: Shape,
+    to: &[u32],
+    marks: &[Marks],
+    at: usize,
+    leaves: &mut [u32],
+    arrives: &mut [u32],
+    bears: &mut [Marks],
+) -> usize
+    requires { ⌜ Ladder (shape .states) (shape .k) (shape .levels) ⌝ }
+    requires { ⌜ RowAsked (shape .states) state (now to) (now marks) ⌝ }
+    requires { ⌜ Room at (shape .levels * length (orLoop (shape .k) (now to) state (now to))) (now leaves) (now arrives) (now bears) ⌝ }
+    ensures { λ r. ⌜ r ≡ at + shape .levels * length (orLoop (shape .k) (now (to .entry)) state (now (to .entry))) ⌝ }
+    ensures { λ r.
+        ⌜ StateWritten (shape .k) state (shape .levels) at (now (to .entry)) (now (marks .entry))
+        (now (leaves .entry)) (now (arrives .entry)) (now (bears .entry)) (now (leaves .exit)) (now (arrives .exit)) (now (bears .exit)) ⌝ }
+{
+    if loops(shape.k, to.len()) == 0 {
+        return lift_row(state, shape, to, marks, at, leaves, arrives, bears);
+    }
+    write_loop(state, at, leaves, arrives, bears);
+    at + 1
+}
+
+// Writes all translated edges, state by state.
 pub(crate) fn lift_table(
     shape: Shape,
     from: &[u32],
@@ -155,19 +196,21 @@ pub(crate) fn lift_table(
 )
     requires { ⌜ Ladder (shape .states) (shape .k) (shape .levels) ⌝ }
     requires { ⌜ Proper (lent (shape .states) 0 (now from) (now to) (now marks)) ⌝ }
-    requires { ⌜ Room 0 (length (now from) * shape .levels) (now leaves) (now arrives) (now bears) ⌝ }
+    requires { ⌜ Room 0 (source (lent (shape .states) 0 (now from) (now to) (now marks)) (shape .k) .edges * shape .levels) (now leaves) (now arrives) (now bears) ⌝ }
     ensures { λ _.
-        ⌜ StatesWritten (lent (shape .states) 0 (now (from .entry)) (now (to .entry)) (now (marks .entry))) (shape .k) (shape .states)
+        ⌜ StatesWritten (source (lent (shape .states) 0 (now (from .entry)) (now (to .entry)) (now (marks .entry))) (shape .k)) (shape .k) (shape .states)
         (now (leaves .entry)) (now (arrives .entry)) (now (bears .entry)) (now (leaves .exit)) (now (arrives .exit)) (now (bears .exit)) ⌝ }
 {
+    let states = shape.states;
+    let mut state = 0;
     let mut first = 0;
     let mut place = 0;
-    while first < from.len() {
-        let state = from[first];
+    while state < states {
         let end = first + run(&from[first..], state);
         let ends = &to[first..end];
         let sets = &marks[first..end];
-        place = lift_row(state, shape, ends, sets, place, leaves, arrives, bears);
+        place = lift_state(state, shape, ends, sets, place, leaves, arrives, bears);
         first = end;
+        state += 1;
     }
 }

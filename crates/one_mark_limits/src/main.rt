@@ -147,19 +147,48 @@ fn last_loop(label: &[u8], n: u32, last: u32) {
     print_outputs(&leaves, &arrives, &bears);
 }
 
-// One state, and as many unmarked loops as `zeros` has cells; 32768 cells are lent. The last cell of each output is printed.
-fn many_loops(label: &[u8], zeros: &[u32]) {
+// States 0 to 3, 0>1{}, 2>2{}: states 1 and 3 are stop states.
+fn halting(label: &[u8], k: u32, leaves: &mut [u32], arrives: &mut [u32], bears: &mut [u32]) {
+    let from = [0u32, 2];
+    let to = [1u32, 2];
+    let marks = [0u32, 0];
+    print(label);
+    let answer = translate(4, 0, &from, &to, &marks, k, leaves, arrives, bears);
+    print_answer(answer);
+    print_outputs(leaves, arrives, bears);
+}
+
+// One cell more than is needed with k = 0.
+fn halting_longer(label: &[u8], k: u32) {
+    let mut leaves = [7u32; 5];
+    let mut arrives = [7u32; 5];
+    let mut bears = [7u32; 5];
+    halting(label, k, &mut leaves, &mut arrives, &mut bears);
+}
+
+// One output is one cell short with k = 0: each of the three in turn.
+fn halting_shorter(label: &[u8], k: u32) {
+    let mut four = [7u32; 4];
+    let mut more = [7u32; 4];
+    let mut three = [7u32; 3];
+    halting(label, k, &mut three, &mut four, &mut more);
+    halting(label, k, &mut four, &mut three, &mut more);
+    halting(label, k, &mut four, &mut more, &mut three);
+}
+
+// n states, and as many unmarked loops at state 0 as `zeros` has cells; 32768 cells are lent. The last cell of each output is printed.
+fn many_loops(label: &[u8], n: u32, k: u32, zeros: &[u32]) {
     let mut leaves = [7u32; 32768];
     let mut arrives = [7u32; 32768];
     let mut bears = [7u32; 32768];
     print(label);
     let answer = translate(
-        1,
+        n,
         0,
         zeros,
         zeros,
         zeros,
-        2,
+        k,
         &mut leaves,
         &mut arrives,
         &mut bears,
@@ -181,7 +210,33 @@ fn main() {
     two_loops(b"k = 32, all marks but 5: ", 32, 4294967263);
     last_loop(b"n = 2048: ", 2048, 2047);
     last_loop(b"n = 2049: ", 2049, 2048);
-    let zeros = [0u32; 16385];
-    many_loops(b"m = 16384: ", &zeros[..16384]);
-    many_loops(b"m = 16385: ", &zeros);
+    halting_longer(b"two stop states, k = 0: ", 0);
+    halting_longer(b"two stop states, k = 1: ", 1);
+    halting_longer(b"two stop states, k = 2: ", 2);
+    halting_shorter(b"two stop states, k = 0, one cell short: ", 0);
+    halting_shorter(b"two stop states, k = 1, the same cells: ", 1);
+    let zeros = [0u32; 32768];
+    many_loops(b"m = 16384, k = 2: ", 1, 2, &zeros[..16384]);
+    many_loops(b"m = 16385, k = 2: ", 1, 2, &zeros[..16385]);
+    many_loops(
+        b"m = 32767 and a stop state, k = 0: ",
+        2,
+        0,
+        &zeros[..32767],
+    );
+    many_loops(b"m = 32768 and a stop state, k = 0: ", 2, 0, &zeros);
+    many_loops(b"m = 32768 and a stop state, k = 1: ", 2, 1, &zeros);
+    many_loops(
+        b"m = 28673 and 4095 stop states, k = 0: ",
+        4096,
+        0,
+        &zeros[..28673],
+    );
+    many_loops(
+        b"m = 28674 and 4095 stop states, k = 0: ",
+        4096,
+        0,
+        &zeros[..28674],
+    );
+    many_loops(b"no edges, k = 0: ", 4096, 0, &zeros[..0]);
 }

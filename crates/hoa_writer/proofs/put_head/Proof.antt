@@ -1,7 +1,7 @@
 -- `put_head` meets its contract: the lines one after another; the first two begin in one key. Assumes nothing.
 use Rattle.hoa_tokens.specs.Bytes.{bytes}
 use Rattle.hoa_writer.specs.Written.{headText}
-use Rattle.hoa_writer.proofs.Few.{few-both, few-word}
+use Rattle.puts.proofs.Few.{few-both, few-word}
 use native.Mathlib.Omega.{arith}
 use borrow.Author.Needs.{needs}
 use Rattle.hoa_writer.proofs.put_head.Statement.{statement}

@@ -1,7 +1,7 @@
 -- `put_text` meets its contract: its parts, one after another. Assumes nothing.
 use Rattle.hoa_tokens.specs.Bytes.{bytes}
 use Rattle.hoa_writer.specs.Written.{hoaText}
-use Rattle.job_text.proofs.Puts.{put-both}
+use Rattle.puts.proofs.Puts.{put-both}
 use borrow.Author.Needs.{needs}
 use Rattle.hoa_writer.proofs.put_text.Statement.{statement}
 use Rattle.hoa_writer.proofs.put_text.Tie as tie

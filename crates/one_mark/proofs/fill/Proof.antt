@@ -2,7 +2,9 @@
 use mathlib.Core.Path.{_∙_}
 use borrow.Author.Needs.{needs}
 use Rattle.table.specs.Table.{lent}
-use Rattle.one_mark.proofs.Outcomes.{filled}
+use Rattle.one_mark.specs.Source.{source}
+use Rattle.one_mark.proofs.Looped.{source-proper}
+use Rattle.one_mark.proofs.Outcomes.{fewer, filled, all-states}
 use Rattle.one_mark.proofs.fill.Statement.{statement}
 use Rattle.one_mark.proofs.fill.Tie as tie
 
@@ -35,8 +37,10 @@ returns c =
     let entry = wrote .before .before .before .before .before .before .before .before .before .before in
     let a = entry .args in
     let pre = entry .pre in
-    filled (lent (a .shape .states) 0 (a .from .now) (a .to .now) (a .marks .now)) (pre .proper) (a .shape .k) (a .edges)
-    (pre .count ∙ rw (pre .ladder .all)) (pre .room) (wrote .lift-table .ensures)
+    let k = a .shape .k in
+    let t = lent (a .shape .states) 0 (a .from .now) (a .to .now) (a .marks .now) in
+    let few = fewer k (source t k .edges) (pre .count ∙ rw (pre .ladder .all)) (pre .few-edges) in
+    filled (source t k) (source-proper t (pre .proper) k few) k (a .edges) (pre .count ∙ rw (pre .ladder .all)) (pre .room) (all-states t k (wrote .lift-table .ensures))
     (c .before .before .before .before .before .before .before .before .before .before .clear .ensures)
     (c .before .before .before .before .before .before .clear2 .ensures)
     (c .before .before .clear3 .ensures)

@@ -2,17 +2,17 @@
 -- (proofs/Answers.antt). Assumes nothing.
 use mathlib.Core.Path.{_≡_, sym, _∙_}
 use mathlib.Core.List.{[]}
-use Prim.Native.Nat.{_*_, _≤_}
+use Prim.Native.Nat.{_+_, _*_, _≤_}
 use native.Mathlib.Omega.{arith}
-use lib.ListN.{length}
 use borrow.Author.Needs.{needs}
 use Rattle.table.specs.declared.Acceptance.the-variants.{Buchi}
 use Rattle.table.specs.declared.Finding.the-variants.{Sound}
 use Rattle.table.specs.Table.{Table, lent}
 use Rattle.table.specs.Refusal.{refusal, mostStates, mostEdges}
 use Rattle.marks.specs.Mark.{width}
-use Rattle.one_mark.specs.Climb.{levels}
-use Rattle.one_mark.proofs.Answers.{answer-faulty, answer-large, answer-short, answer-made, not-large, ladder, counts-fit, start-below}
+use Rattle.one_mark.specs.Source.{source}
+use Rattle.one_mark.specs.Translated.{translated}
+use Rattle.one_mark.proofs.Answers.{Counts, counts, answer-faulty, answer-large, answer-short, answer-made, not-large, ladder, counts-fit, start-below, rising}
 use Rattle.one_mark.specs.Outcome.{large, short}
 use Rattle.one_mark.proofs.foresee.Statement.{statement}
 use Rattle.one_mark.proofs.foresee.Tie as tie
@@ -27,26 +27,39 @@ sound : (c : tie.After-level-count) →
     refusal (table entry) (Buchi (entry .args .k)) [] ≡ Sound
 sound c = sym (c .before .before .before .check .ensures) ∙ c .before .enum-told .given .1
 
--- its counts fit a word
+-- the counts were made
+made : (c : tie.After-source-count) →
+    let a = c .before .before .before .before .before .before .before .before .args in
+    Counts (a .n) (a .start) (a .k) (c .before .level-count .result) (c .source-count .result) (a .from .now) (a .to .now) (a .marks .now)
+made c =
+    let a = c .before .before .before .before .before .before .before .before .args in
+    counts (a .n) (a .start) (a .k) _ _ (a .from .now) (a .to .now) (a .marks .now) (c .before .level-count .ensures) (c .source-count .ensures)
+
+-- they fit a word
 fitting : (c : tie.After-level-count) →
     let entry = c .before .before .before .before .before .before .before in
-    (entry .args .n * c .level-count .result ≤ mostStates * width) × (length (entry .args .from .now) * c .level-count .result ≤ mostEdges * width)
+    (entry .args .n * c .level-count .result ≤ mostStates * width)
+    × (source (table entry) (entry .args .k) .edges * c .level-count .result ≤ (mostEdges + mostStates) * width)
 fitting c =
     let a = c .before .before .before .before .before .before .before .args in
     counts-fit (a .n) (a .start) (a .k) (a .from .now) (a .to .now) (a .marks .now) (sound c) (c .level-count .result) (c .level-count .ensures)
 
+edges-fit : (c : tie.After-source-count) → c .source-count .result * c .before .level-count .result ≤ (mostEdges + mostStates) * width
+edges-fit c =
+    rw (← made c .edges) (rw (← c .before .level-count .ensures) (fitting (c .before) .1))
+
 -- row 10 was tested
 large-told : (c : tie.After-too-large) →
-    let entry = c .before .before .before .before .before .before .before .before in
-    c .too-large .result ≡ large (entry .args .n * levels (entry .args .k)) (length (entry .args .from .now) * levels (entry .args .k))
-large-told c = c .too-large .ensures ∙ rw (c .before .level-count .ensures)
+    let entry = c .before .before .before .before .before .before .before .before .before in
+    c .too-large .result ≡ large (translated (table entry) (entry .args .k) .states) (translated (table entry) (entry .args .k) .edges)
+large-told c = rw (made (c .before) .states, made (c .before) .edges) (c .too-large .ensures)
 
 -- row 11 was tested
 short-told : (c : tie.After-too-short) →
-    let a = c .before .before .before .before .before .before .before .before .before .before .args in
-    let out = a .lengths in
-    c .too-short .result ≡ short (length (a .from .now) * levels (a .k)) (out .leaves) (out .arrives) (out .bears)
-short-told c = c .too-short .ensures ∙ rw (c .before .before .before .level-count .ensures)
+    let entry = c .before .before .before .before .before .before .before .before .before .before .before in
+    let out = entry .args .lengths in
+    c .too-short .result ≡ short (translated (table entry) (entry .args .k) .edges) (out .leaves) (out .arrives) (out .bears)
+short-told c = rw (made (c .before .before .before) .edges) (c .too-short .ensures)
 
 check-requires : tie.Need-check-requires
 check-requires c κs = search needs
@@ -70,11 +83,16 @@ level-count-requires c κs = search needs
 mul-states : tie.Need-mul-states
 mul-states c = omega (arith, fitting c .0)
 
+source-count-requires : tie.Need-source-count-requires
+source-count-requires c κs =
+    let a = c .before .before .before .before .before .before .before .args in
+    rising (a .n) (a .start) (a .k) (a .from .now) (a .to .now) (a .marks .now) (sound c)
+
 cast-edges : tie.Need-cast-edges
 cast-edges c = search needs
 
 mul-edges : tie.Need-mul-edges
-mul-edges c = omega (arith, fitting c .1)
+mul-edges c = omega (arith, edges-fit c)
 
 too-large-requires : tie.Need-too-large-requires
 too-large-requires c κs = search needs
@@ -84,11 +102,12 @@ refused-requires c κs = search needs
 
 returns-2 : tie.Need-returns-2
 returns-2 c =
-    let entry = c .before .before .before .before .before .before .before .before .before .before in
+    let tested = c .before .before in
+    let entry = tested .before .before .before .before .before .before .before .before .before in
     let out = entry .args .lengths in
     c .refused .ensures
-    ∙ answer-large (table entry) (entry .args .k) (out .leaves) (out .arrives) (out .bears) (sound (c .before .before .before))
-    (sym (large-told (c .before .before)) ∙ c .before .if1 .taken)
+    ∙ answer-large (table entry) (entry .args .k) (out .leaves) (out .arrives) (out .bears) (sound (tested .before .before))
+    (sym (large-told tested) ∙ c .before .if1 .taken)
 
 too-short-requires : tie.Need-too-short-requires
 too-short-requires c κs = search needs
@@ -98,33 +117,38 @@ refused-requires-2 c κs = search needs
 
 returns-3 : tie.Need-returns-3
 returns-3 c =
-    let entry = c .before .before .before .before .before .before .before .before .before .before .before .before in
+    let tested = c .before .before .before .before in
+    let entry = tested .before .before .before .before .before .before .before .before .before in
     let out = entry .args .lengths in
     c .refused2 .ensures
-    ∙ answer-short (table entry) (entry .args .k) (out .leaves) (out .arrives) (out .bears) (sound (c .before .before .before .before .before))
-    (sym (large-told (c .before .before .before .before)) ∙ c .before .before .before .if1 .left) (sym (short-told (c .before .before)) ∙ c .before .if2 .taken)
+    ∙ answer-short (table entry) (entry .args .k) (out .leaves) (out .arrives) (out .bears) (sound (tested .before .before))
+    (sym (large-told tested) ∙ c .before .before .before .if1 .left) (sym (short-told (c .before .before)) ∙ c .before .if2 .taken)
 
 number-of-requires : tie.Need-number-of-requires
 number-of-requires c κs =
-    let a = c .before .before .before .before .before .before .before .before .before .before .before .args in
-    let s = sound (c .before .before .before .before) in
-    let count = c .before .before .before .before .level-count .ensures in (
-      ladder (a .n) (a .start) (a .k) (a .from .now) (a .to .now) (a .marks .now) s (c .before .before .before .before .level-count .result) count
-          (not-large _ (length (a .from .now) * levels (a .k)) (sym (large-told (c .before .before .before)) ∙ c .before .before .if1 .left)),
+    let tested = c .before .before .before in
+    let entry = tested .before .before .before .before .before .before .before .before .before in
+    let a = entry .args in
+    let s = sound (tested .before .before) in
+    let told = tested .before .before .level-count in
+    let few = not-large (translated (table entry) (a .k) .states) (translated (table entry) (a .k) .edges) (sym (large-told tested) ∙ c .before .before .if1 .left) in (
+      ladder (a .n) (a .start) (a .k) (a .from .now) (a .to .now) (a .marks .now) s (told .result) (told .ensures)
+          (rw (← told .ensures, ← made (tested .before) .states) few),
       (start-below (a .n) (a .start) (a .k) (a .from .now) (a .to .now) (a .marks .now) s, omega arith),
     )
 
 cast-count : tie.Need-cast-count
-cast-count c = omega (arith, fitting (c .before .before .before .before .before) .1)
+cast-count c = omega (arith, edges-fit (c .before .before .before .before .before))
 
 returns-4 : tie.Need-returns-4
 returns-4 c =
-    let entry = c .before .before .before .before .before .before .before .before .before .before .before .before in
-    let a = entry .args in
-    let out = a .lengths in
-    let made = answer-made (table entry) (a .k) (out .leaves) (out .arrives) (out .bears) (sound (c .before .before .before .before .before))
-    (sym (large-told (c .before .before .before .before)) ∙ c .before .before .before .if1 .left) (sym (short-told (c .before .before)) ∙ c .before .if2 .left) in
-    rw (c .number-of .ensures, c .before .before .before .before .before .level-count .ensures) made
+    let tested = c .before .before .before .before in
+    let entry = tested .before .before .before .before .before .before .before .before .before in
+    let out = entry .args .lengths in
+    let m = made (tested .before) in
+    let made = answer-made (table entry) (entry .args .k) (out .leaves) (out .arrives) (out .bears) (sound (tested .before .before))
+    (sym (large-told tested) ∙ c .before .before .before .if1 .left) (sym (short-told (c .before .before)) ∙ c .before .if2 .left) in
+    rw (c .number-of .ensures, ← m .states, ← m .edges, ← m .first) made
 
 pub foresee-spec : {M : Type 1} → statement M
 foresee-spec =
@@ -136,6 +160,7 @@ foresee-spec =
     enum-told
     level-count-requires
     mul-states
+    source-count-requires
     cast-edges
     mul-edges
     too-large-requires

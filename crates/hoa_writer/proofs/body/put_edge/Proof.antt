@@ -1,7 +1,7 @@
 -- `body::put_edge` meets its contract: label, target, marks and newline byte, one after another. Assumes nothing.
 use Rattle.hoa_tokens.specs.Bytes.{bytes}
 use Rattle.hoa_writer.specs.Written.{edgeText}
-use Rattle.hoa_writer.proofs.Few.{few-word, few-both}
+use Rattle.puts.proofs.Few.{few-word, few-both}
 use native.Mathlib.Omega.{arith}
 use borrow.Author.Needs.{needs}
 use Rattle.hoa_writer.proofs.body.put_edge.Statement.{statement}

@@ -3,9 +3,9 @@ use mathlib.Core.Path.{_≡_}
 use Prim.Native.Nat.{_-_, _*_, _≤_, zero-le}
 use denote.Ref.{now}
 use lib.ListN.{length, getD}
-use Rattle.job_text.specs.Printed.{PutFew}
-use Rattle.hoa_writer.specs.Written.{joined, edgeText}
-use Rattle.hoa_writer.proofs.Few.{joined-none, joined-more, few-length}
+use Rattle.puts.specs.Put.{joined, PutFew}
+use Rattle.hoa_writer.specs.Written.{edgeText}
+use Rattle.puts.proofs.Few.{joined-none, joined-more, few-length}
 use native.Mathlib.Omega.{arith}
 use borrow.Author.Needs.{needs}
 use Rattle.hoa_writer.proofs.body.put_edges.Statement.{statement}

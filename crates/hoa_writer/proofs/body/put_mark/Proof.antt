@@ -5,7 +5,7 @@ use Prim.Native.Nat.{ℕ, _%_, _^_}
 use lib.Pow.{pow-pos}
 use borrow.Author.Tests.{not-true, not-false}
 use Rattle.hoa_writer.proofs.Sigs.{shifted, mark-absent, mark-lowest, mark-further}
-use Rattle.hoa_writer.proofs.Few.{few-none, few-word, few-both}
+use Rattle.puts.proofs.Few.{few-none, few-word, few-both}
 use native.Mathlib.Omega.{arith}
 use borrow.Author.Needs.{needs}
 use Rattle.hoa_writer.proofs.body.put_mark.Statement.{statement}

@@ -1,9 +1,9 @@
 -- `body::put_marks` meets its contract: each turn writes one mark more (`joined-more`). The measure is the marks that are left. Assumes nothing.
 use mathlib.Core.Path.{_≡_}
 use Prim.Native.Nat.{_-_, _*_, _≤_, zero-le}
-use Rattle.job_text.specs.Printed.{PutFew}
-use Rattle.hoa_writer.specs.Written.{joined, markText}
-use Rattle.hoa_writer.proofs.Few.{joined-none, joined-more, few-length}
+use Rattle.puts.specs.Put.{joined, PutFew}
+use Rattle.hoa_writer.specs.Written.{markText}
+use Rattle.puts.proofs.Few.{joined-none, joined-more, few-length}
 use native.Mathlib.Omega.{arith}
 use borrow.Author.Needs.{needs}
 use Rattle.hoa_writer.proofs.body.put_marks.Statement.{statement}

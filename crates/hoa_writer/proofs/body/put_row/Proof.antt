@@ -1,6 +1,6 @@
 -- `body::put_row` meets its contract: the state's line and its edges, one after another. Assumes nothing.
 use Rattle.hoa_tokens.specs.Bytes.{bytes}
-use Rattle.hoa_writer.proofs.Few.{few-both}
+use Rattle.puts.proofs.Few.{few-both}
 use native.Mathlib.Omega.{arith}
 use borrow.Author.Needs.{needs}
 use Rattle.hoa_writer.proofs.body.put_row.Statement.{statement}

@@ -4,9 +4,9 @@ use mathlib.Core.Path.{_≡_, _∙_, sym}
 use Prim.Native.Nat.{_+_, _-_, _*_, _≤_, zero-le}
 use denote.Ref.{now}
 use Rattle.table.proofs.Rows.{Begins, first-begins, part-length}
-use Rattle.job_text.specs.Printed.{PutFew}
-use Rattle.hoa_writer.specs.Written.{joined, rowText}
-use Rattle.hoa_writer.proofs.Few.{joined-none, few-more, few-length}
+use Rattle.puts.specs.Put.{joined, PutFew}
+use Rattle.hoa_writer.specs.Written.{rowText}
+use Rattle.puts.proofs.Few.{joined-none, few-more, few-length}
 use Rattle.hoa_writer.proofs.Rows.{row-ends, row-at, rows-more, next-row}
 use native.Mathlib.Omega.{arith}
 use borrow.Author.Needs.{needs}

@@ -2,7 +2,7 @@
 use borrow.Author.Tests.{eq-eqb, ne-eqb}
 use Rattle.hoa_tokens.specs.Bytes.{bytes}
 use Rattle.hoa_writer.specs.Written.{sigText}
-use Rattle.hoa_writer.proofs.Few.{few-none, few-word, few-both}
+use Rattle.puts.proofs.Few.{few-none, few-word, few-both}
 use native.Mathlib.Omega.{arith}
 use borrow.Author.Needs.{needs}
 use Rattle.hoa_writer.proofs.body.put_sig.Statement.{statement}

@@ -4,7 +4,7 @@ use mathlib.Core.Bool.{Bool, cond}
 use Rattle.hoa_tokens.specs.Bytes.{bytes}
 use Rattle.table.specs.Refusal.{used}
 use Rattle.hoa_writer.specs.Written.{acceptanceText}
-use Rattle.hoa_writer.proofs.Few.{few-word, few-both}
+use Rattle.puts.proofs.Few.{few-word, few-both}
 use native.Mathlib.Omega.{arith}
 use borrow.Author.Needs.{needs}
 use Rattle.hoa_writer.proofs.formula.put_acceptance.Statement.{statement}

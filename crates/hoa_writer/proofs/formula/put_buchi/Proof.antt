@@ -1,6 +1,6 @@
 -- `formula::put_buchi` meets its contract: `t` for none, else the first mark and the others (`buchi-some`). Assumes nothing.
 use Rattle.hoa_tokens.specs.Bytes.{bytes}
-use Rattle.hoa_writer.proofs.Few.{few-word, few-both}
+use Rattle.puts.proofs.Few.{few-word, few-both}
 use Rattle.hoa_writer.proofs.Formulas.{buchi-none, buchi-some}
 use native.Mathlib.Omega.{arith}
 use borrow.Author.Needs.{needs}

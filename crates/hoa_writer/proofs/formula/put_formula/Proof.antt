@@ -3,7 +3,7 @@ use mathlib.Core.Path.{_≡_}
 use borrow.Author.Tests.{ltb-false}
 use Rattle.table.specs.declared.Acceptance.the-variants.{Buchi, Streett, Rabin}
 use Rattle.table.proofs.Sound.{used-few, rabin-few}
-use Rattle.hoa_writer.proofs.Few.{few-more}
+use Rattle.puts.proofs.Few.{few-more}
 use native.Mathlib.Omega.{arith}
 use borrow.Author.Needs.{needs}
 use Rattle.hoa_writer.proofs.formula.put_formula.Statement.{statement}

@@ -3,9 +3,9 @@
 use mathlib.Core.Path.{_≡_}
 use Prim.Native.Nat.{_+_, _-_, _*_, _≤_, zero-le}
 use Rattle.hoa_tokens.specs.Bytes.{bytes}
-use Rattle.job_text.specs.Printed.{PutFew}
-use Rattle.hoa_writer.specs.Written.{held, close, furtherInfs}
-use Rattle.hoa_writer.proofs.Few.{joined-none, joined-more, few-length}
+use Rattle.puts.specs.Put.{held, PutFew}
+use Rattle.hoa_writer.specs.Written.{close, furtherInfs}
+use Rattle.puts.proofs.Few.{joined-none, joined-more, few-length}
 use native.Mathlib.Omega.{arith}
 use borrow.Author.Needs.{needs}
 use Rattle.hoa_writer.proofs.formula.put_infs.Statement.{statement}

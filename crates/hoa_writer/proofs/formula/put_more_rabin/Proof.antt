@@ -4,9 +4,9 @@ use mathlib.Core.Path.{_≡_, sym, ap, _∙_}
 use Prim.Native.Nat.{ℕ, _+_, _-_, _*_, _≤_, zero-le}
 use Rattle.hoa_tokens.specs.Bytes.{bytes}
 use Rattle.table.specs.Condition.{need, dealt}
-use Rattle.job_text.specs.Printed.{PutFew}
+use Rattle.puts.specs.Put.{PutFew}
 use Rattle.hoa_writer.specs.Written.{furtherRabin}
-use Rattle.hoa_writer.proofs.Few.{joined-none, few-more, few-length}
+use Rattle.puts.proofs.Few.{joined-none, few-more, few-length}
 use Rattle.hoa_writer.proofs.Formulas.{dealt-one, dealt-next, dealt-up, dealt-within, rabin-more}
 use native.Mathlib.Omega.{arith}
 use borrow.Author.Needs.{needs}

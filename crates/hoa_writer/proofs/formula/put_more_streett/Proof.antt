@@ -1,10 +1,10 @@
 -- `formula::put_more_streett` meets its contract: each turn writes one pair more (`streett-more`). The measure is the pairs that are left. Assumes nothing.
 use mathlib.Core.Path.{_≡_}
 use Prim.Native.Nat.{_-_, _*_, _≤_, zero-le}
-use Rattle.job_text.specs.Printed.{PutFew}
+use Rattle.puts.specs.Put.{PutFew}
 use Rattle.hoa_tokens.specs.Bytes.{bytes}
 use Rattle.hoa_writer.specs.Written.{furtherStreett}
-use Rattle.hoa_writer.proofs.Few.{joined-none, few-length}
+use Rattle.puts.proofs.Few.{joined-none, few-length}
 use Rattle.hoa_writer.proofs.Formulas.{streett-more}
 use native.Mathlib.Omega.{arith}
 use borrow.Author.Needs.{needs}

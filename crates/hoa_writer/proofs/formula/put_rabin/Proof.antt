@@ -3,7 +3,7 @@ use mathlib.Core.Path.{_≡_}
 use Prim.Native.Nat.{_+_, _-_, _≤_}
 use Rattle.hoa_tokens.specs.Bytes.{bytes}
 use Rattle.table.specs.Condition.{need}
-use Rattle.hoa_writer.proofs.Few.{few-word, few-both}
+use Rattle.puts.proofs.Few.{few-word, few-both}
 use Rattle.hoa_writer.proofs.Formulas.{dealt-one, dealt-up, rabin-none, rabin-some}
 use native.Mathlib.Omega.{arith}
 use borrow.Author.Needs.{needs}

@@ -1,7 +1,7 @@
 -- `formula::put_rabin_pair` meets its contract: the forbidden mark, the needed marks and the bracket, one after another. Assumes nothing.
 use native.Mathlib.Nat.{le-refl}
 use Rattle.hoa_tokens.specs.Bytes.{bytes}
-use Rattle.hoa_writer.proofs.Few.{few-word, few-both}
+use Rattle.puts.proofs.Few.{few-word, few-both}
 use native.Mathlib.Omega.{arith}
 use borrow.Author.Needs.{needs}
 use Rattle.hoa_writer.proofs.formula.put_rabin_pair.Statement.{statement}

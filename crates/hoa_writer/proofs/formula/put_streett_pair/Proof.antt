@@ -1,6 +1,6 @@
 -- `formula::put_streett_pair` meets its contract: both marks and the bracket, one after another. Assumes nothing.
 use Rattle.hoa_tokens.specs.Bytes.{bytes}
-use Rattle.hoa_writer.proofs.Few.{few-both, few-word}
+use Rattle.puts.proofs.Few.{few-both, few-word}
 use native.Mathlib.Omega.{arith}
 use borrow.Author.Needs.{needs}
 use Rattle.hoa_writer.proofs.formula.put_streett_pair.Statement.{statement}

@@ -6,9 +6,11 @@ use mathlib.Core.Option.{some, none}
 use denote.Ref.{now}
 use lib.ListN.{length, getD, drop}
 use borrow.Author.Tests.{le-leb}
-use Rattle.job_text.specs.Value.{digit, spelt, mostNumber}
-use Rattle.job_text.specs.Given.{numberGiven}
-use Rattle.job_text.proofs.Values.{digit-below, spelt-more, spelt-wrong, spelt-end, too-large}
+use Rattle.job_text.specs.Value.{spelt, mostNumber}
+use Rattle.digits.specs.Digit.{digit}
+use Rattle.digits.specs.Given.{digitGiven}
+use Rattle.digits.proofs.Digits.{digit-below}
+use Rattle.job_text.proofs.Values.{spelt-more, spelt-wrong, spelt-end, too-large}
 use borrow.Author.Needs.{needs}
 use native.Mathlib.Omega.{arith}
 use Rattle.job_text.proofs.value.decimal.Statement.{statement}
@@ -39,7 +41,7 @@ returns : tie.Need-returns Inv-loop μ-loop
 returns c =
     let l = c .before .before .before .before .before .loop in
     let a = c .before .before .before .before .before .before .before .args in
-    let w : digit (getD (now (a .bytes)) (l .i) 0) ≡ none = sym (c .before .before .digit-value .ensures) ∙ ap numberGiven (c .enum-told .given .1) in
+    let w : digit (getD (now (a .bytes)) (l .i) 0) ≡ none = sym (c .before .before .digit-value .ensures) ∙ ap digitGiven (c .enum-told .given .1) in
     rw (l .inv .2, spelt-wrong digit 10 (now (a .bytes)) (l .i) (l .value) (omega arith) w)
 
 -- the byte that is read, and its digit
@@ -47,7 +49,7 @@ abbrev byte : tie.After-known-told Inv-loop μ-loop → ℕ
 byte c = getD (now (c .before .before .before .before .before .before .before .before .args .bytes)) (c .before .before .before .before .before .before .loop .i) 0
 
 reads : (c : tie.After-known-told Inv-loop μ-loop) → digit (byte c) ≡ some (c .before .d .given .0 .0)
-reads c = sym (c .before .before .before .digit-value .ensures) ∙ ap numberGiven (c .before .d .given .1)
+reads c = sym (c .before .before .before .digit-value .ensures) ∙ ap digitGiven (c .before .d .given .1)
 
 -- the digit is taken on
 more : (c : tie.After-known-told Inv-loop μ-loop)

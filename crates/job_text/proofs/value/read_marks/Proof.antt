@@ -7,9 +7,11 @@ use denote.Ref.{now}
 use lib.Dec.{lit<}
 use lib.ListN.{length, getD, drop}
 use borrow.Author.Tests.{eq-eqb, ne-eqb}
-use Rattle.job_text.specs.Value.{hexDigit, spelt, hexWord}
-use Rattle.job_text.specs.Given.{numberGiven}
-use Rattle.job_text.proofs.Values.{hex-below, spelt-more, spelt-wrong, spelt-end, hex-more, hex-fits}
+use Rattle.job_text.specs.Value.{spelt, hexWord}
+use Rattle.digits.specs.Digit.{hexDigit}
+use Rattle.digits.specs.Given.{digitGiven}
+use Rattle.digits.proofs.Digits.{hex-below}
+use Rattle.job_text.proofs.Values.{spelt-more, spelt-wrong, spelt-end, hex-more, hex-fits}
 use borrow.Author.Needs.{needs}
 use native.Mathlib.Omega.{arith}
 use Rattle.job_text.proofs.value.read_marks.Statement.{statement}
@@ -45,7 +47,7 @@ unfolding hexWord
 returns-2 c =
     let l = c .before .before .before .before .before .loop in
     let bs = now (c .before .before .before .before .before .before .before .before .args .bytes) in
-    let w : hexDigit (getD bs (l .i) 0) ≡ none = sym (c .before .before .hex-value .ensures) ∙ ap numberGiven (c .enum-told .given .1) in
+    let w : hexDigit (getD bs (l .i) 0) ≡ none = sym (c .before .before .hex-value .ensures) ∙ ap digitGiven (c .enum-told .given .1) in
     rw (eq-eqb (length bs) 8 (c .before .before .before .before .before .before .if1 .left), l .inv .2, spelt-wrong hexDigit 16 bs (l .i) (l .value) (omega arith) w)
 
 -- the byte that is read, and its digit
@@ -54,7 +56,7 @@ byte c =
     getD (now (c .before .before .before .before .before .before .before .before .before .args .bytes)) (c .before .before .before .before .before .before .loop .i) 0
 
 reads : (c : tie.After-known-told Inv-loop μ-loop) → hexDigit (byte c) ≡ some (c .before .d .given .0 .0)
-reads c = sym (c .before .before .before .hex-value .ensures) ∙ ap numberGiven (c .before .d .given .1)
+reads c = sym (c .before .before .before .hex-value .ensures) ∙ ap digitGiven (c .before .d .given .1)
 
 -- there is a digit more
 fits : (c : tie.After-known-told Inv-loop μ-loop)

@@ -1,62 +1,48 @@
--- `lift_table` meets its contract: each turn finds the row of the next edge's state and writes it behind those before (`row-behind`); states
--- without edges need no writing (`states-same`), so that at the end all rows are written. The measure is the edges left. Assumes nothing.
-use mathlib.Core.Path.{_≡_, refl}
-use Prim.Native.Nat.{ℕ, _-_, _*_}
+-- `lift_table` meets its contract: each turn finds the row of the next state and writes what stands for it behind what stands for the states below
+-- (`row-behind`), so that at the end all states are written. The measure is the states left. Assumes nothing.
+use mathlib.Core.Path.{_≡_}
+use Prim.Native.Nat.{_-_, _*_, _≤_}
 use native.Mathlib.Omega.{arith}
-use lib.ListN.{length, getD}
 use borrow.Author.Needs.{needs}
 use Rattle.table.specs.Table.{Table, lent}
 use Rattle.table.proofs.Rows.{Begins, first-begins}
+use Rattle.one_mark.specs.Place.{rowStart}
+use Rattle.one_mark.specs.Source.{source}
 use Rattle.one_mark.specs.Writing.{StatesWritten}
-use Rattle.one_mark.proofs.Order.{Cut, begins-cut, cut-begins, sorted, all-begins}
-use Rattle.one_mark.proofs.RowParts.{RowAt, row-ends, row-some, next, row-asked, row-room, row-placed, row-behind, states-same, states-none}
+use Rattle.one_mark.proofs.Looped.{source-length}
+use Rattle.one_mark.proofs.RowParts.{RowAt, row-ends, next, row-asked, source-row, row-room, row-placed, row-behind, first-place, none-written}
 use Rattle.one_mark.proofs.Wrote.{Kept, wrote-kept}
 use Rattle.one_mark.proofs.lift.lift_table.Statement.{statement}
 use Rattle.one_mark.proofs.lift.lift_table.Tie as tie
 
--- between two rows; whichever state's row begins here, the rows of those below it are written; and the next place is behind them
+-- the next state's row begins here; the next place is behind what stands for the states below it; and they are written
 abbrev Inv-loop : tie.InvT-loop
-Inv-loop shape from to marks leaves₀ arrives₀ bears₀ first₀ place₀ leaves arrives bears first place =
-    Cut from first × (place ≡ first * shape .levels)
-    × ((s : ℕ) → Begins from s first → StatesWritten (lent (shape .states) 0 from to marks) (shape .k) s leaves₀ arrives₀ bears₀ leaves arrives bears)
+Inv-loop shape from to marks leaves₀ arrives₀ bears₀ states state₀ first₀ place₀ leaves arrives bears state first place =
+    (state ≤ states) × Begins from state first
+    × (place ≡ rowStart (source (lent (shape .states) 0 from to marks) (shape .k)) state * shape .levels)
+    × StatesWritten (source (lent (shape .states) 0 from to marks) (shape .k)) (shape .k) state leaves₀ arrives₀ bears₀ leaves arrives bears
     × Kept leaves₀ arrives₀ bears₀ leaves arrives bears
 
 abbrev μ-loop : tie.MeasureT-loop
-μ-loop shape from to marks leaves₀ arrives₀ bears₀ first₀ place₀ leaves arrives bears first place = length from - first
+μ-loop shape from to marks leaves₀ arrives₀ bears₀ states state₀ first₀ place₀ leaves arrives bears state first place = states - state
 
 -- the table that is lent
-abbrev table : tie.After-run Inv-loop μ-loop → Table
-table c =
-    let a = c .before .before .before .before .before .before .before .before .before .before .before .args in
-    lent (a .shape .states) 0 (a .from .now) (a .to .now) (a .marks .now)
+abbrev table : tie.Start Inv-loop μ-loop → Table
+table entry = let a = entry .args in lent (a .shape .states) 0 (a .from .now) (a .to .now) (a .marks .now)
 
 -- the row that was found in it
 row-at : (c : tie.After-run Inv-loop μ-loop) →
-    let first = c .before .before .before .before .loop .first in
-    RowAt (table c) (getD (table c .from) first 0) first (c .run .result)
+    let loop = c .before .before .before .loop in
+    RowAt (table (c .before .before .before .before .before .before .before .before .before .before)) (loop .state) (loop .first) (c .run .result)
 row-at c =
-    let proper = c .before .before .before .before .before .before .before .before .before .before .before .pre .1 .0 in
-    record {
-      proper = proper;
-      begins = cut-begins (table c .from) _ (sorted (table c) proper) (c .before .before .before .before .loop .inv .0) (c .before .before .before .loop-test .taken);
-      long = c .run .ensures;
-    }
+    let entry = c .before .before .before .before .before .before .before .before .before .before in
+    record { proper = entry .pre .1 .0; state = c .before .before .loop-test .taken; begins = c .before .before .before .loop .inv .1; long = c .run .ensures }
 
 loop-holds : tie.Need-loop-holds Inv-loop μ-loop
 loop-holds c =
-    let entry = c .before .before .before .before .before .before in
-    let a = entry .args in (
-      begins-cut (a .from .now) 0 0 (first-begins (a .from .now)),
-      search needs,
-      states-none (lent (a .shape .states) 0 (a .from .now) (a .to .now) (a .marks .now)) (entry .pre .1 .0) (a .shape .k),
-      search needs,
-    )
-
-mul-state : tie.Need-mul-state Inv-loop μ-loop
-mul-state c = search needs
-
-shared-slice-read-state : tie.Need-shared-slice-read-state Inv-loop μ-loop
-shared-slice-read-state c = search needs
+    let a = c .before .before .before .before .before .before .args in
+    let u = source (lent (a .shape .states) 0 (a .from .now) (a .to .now) (a .marks .now)) (a .shape .k) in
+    (search needs, first-begins (a .from .now), first-place u (a .shape .levels), none-written u (a .shape .k), search needs)
 
 mul-run : tie.Need-mul-run Inv-loop μ-loop
 mul-run c = search needs
@@ -100,33 +86,31 @@ part-sets-start c = search needs
 part-sets-end : tie.Need-part-sets-end Inv-loop μ-loop
 part-sets-end c = omega (arith, row-ends (row-at (c .before)), row-at (c .before) .proper .marks-length)
 
-lift-row-requires : tie.Need-lift-row-requires Inv-loop μ-loop
-lift-row-requires c κs =
+lift-state-requires : tie.Need-lift-state-requires Inv-loop μ-loop
+lift-state-requires c κs =
     let after = c .before .before .before .before .before in
-    let pre = after .before .before .before .before .before .before .before .before .before .before .before .pre in
-    let inv = after .before .before .before .before .loop .inv in
+    let entry = after .before .before .before .before .before .before .before .before .before .before in
+    let inv = after .before .before .before .loop .inv in
+    let k = entry .args .shape .k in
     let row = row-at after in
-    (pre .0, (row-asked row (row .proper .from-below _ (after .before .before .before .loop-test .taken)), row-room row _ _ (pre .1 .1) (inv .3) (inv .1)))
+    (entry .pre .0, (row-asked row, row-room (source-row row k) _ _ (source-length (table entry) (row .proper) k) (entry .pre .1 .1) (inv .4) (inv .2)))
+
+add-state : tie.Need-add-state Inv-loop μ-loop
+add-state c = search needs
 
 loop-less : tie.Need-loop-less Inv-loop μ-loop
-loop-less c =
-    let after = c .before .before .before .before .before .before .before .before .before .before .before .before in
-    omega (arith, row-some (row-at after) (after .before .before .before .loop-test .taken) refl, after .before .before .before .loop-test .taken)
+loop-less c = search needs
 
 loop-again : tie.Need-loop-again Inv-loop μ-loop
 loop-again c =
-    let called = c .before .before .before .before .before .before .lift-row .ensures in
+    let called = c .before .before .before .before .before .before .lift-state .ensures in
     let after = c .before .before .before .before .before .before .before .before .before .before .before .before in
-    let loop = after .before .before .before .before .loop in
-    let entry = after .before .before .before .before .before .before .before .before .before .before .before in
+    let loop = after .before .before .before .loop in
+    let entry = after .before .before .before .before .before .before .before .before .before .before in
     let shape = entry .args .shape in
-    let row = row-at after in
-    let wrote = row-behind row (shape .k) (shape .levels) (loop .place) (entry .pre .0 .all) (loop .inv .1) (loop .inv .2 _ (row .begins)) (called .1) in (
-      begins-cut _ _ _ (next row),
-      row-placed row _ _ _ (loop .inv .1) (called .0),
-      λ s begins. states-same (table after) (row .proper) (shape .k) _ s _ (next row) begins wrote,
-      wrote-kept wrote,
-    )
+    let row = source-row (row-at after) (shape .k) in
+    let wrote = row-behind row (shape .k) (shape .levels) (loop .place) (entry .pre .0 .all) (loop .inv .2) (loop .inv .3) (called .1) in
+    (search needs, next (row-at after), row-placed row _ _ _ (loop .inv .2) (called .0), wrote, wrote-kept wrote)
 
 same-length : tie.Need-same-length Inv-loop μ-loop
 same-length c = search needs
@@ -139,12 +123,9 @@ same-length-3 c = search needs
 
 returns : tie.Need-returns Inv-loop μ-loop
 returns c =
-    let entry = c .before .before .before .before .before .before .before .before in
-    let a = entry .args in
-    let t = lent (a .shape .states) 0 (a .from .now) (a .to .now) (a .marks .now) in
-    let inv = c .before .loop .inv in
-    let all : length (a .from .now) ≡ c .before .loop .first = omega (arith, inv .0 .within) in
-    inv .2 (a .shape .states) (rw all at (all-begins t (entry .pre .1 .0)))
+    let loop = c .before .loop in
+    let all : loop .state ≡ c .before .before .before .before .before .before .before .before .args .shape .states = omega arith in
+    rw all at (loop .inv .3)
 
 pub lift-table-spec : {M : Type 1} → statement M
 lift-table-spec =
@@ -153,8 +134,6 @@ lift-table-spec =
     Inv-loop
     μ-loop
     loop-holds
-    mul-state
-    shared-slice-read-state
     mul-run
     sub-run
     part-run-start
@@ -169,7 +148,8 @@ lift-table-spec =
     sub-sets
     part-sets-start
     part-sets-end
-    lift-row-requires
+    lift-state-requires
+    add-state
     loop-less
     loop-again
     same-length

@@ -1,0 +1,2 @@
+-- Writings: what is given, refusal by refusal and for a text that is written
+pub mod Writings

@@ -22,6 +22,7 @@ fn tell_refused(number: u32, place: u32, out: &mut [u8; MOST_WRITTEN]) -> usize
     let room = [0u32; 0];
     let refused = Answer {
         verdict: Verdict::Refused { number, place },
+        depth: 0,
     };
     match print(refused, Acceptance::Buchi(0), &room, out) {
         Printed::Text { length } => length,

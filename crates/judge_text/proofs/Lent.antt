@@ -65,4 +65,4 @@ By j room scratch v f = ByCause f (jobTable j) (j .condition) (j .needs) (replic
 pub by-rows : (j : Job) (room scratch : List ℕ) (a : Answer) → Answers (jobTable j) (j .condition) (j .needs) (replicate lentRoom 0) room (replicate lentScratch 0) scratch a
     → judgeRefusal (jobTable j) (j .condition) (j .needs) lentRoom lentScratch ≡ refusal (jobTable j) (j .condition) (j .needs)
     → By j room scratch (a .verdict) (refusal (jobTable j) (j .condition) (j .needs))
-by-rows j room scratch a A e = subst (By j room scratch (a .verdict)) e A
+by-rows j room scratch a A e = subst (By j room scratch (a .verdict)) e (A .says)

@@ -54,7 +54,7 @@ pub judged-fits : (n start : ℕ) (from to marks : List ℕ) (c : Acceptance) (n
 judged-fits n start from to marks c needs room scratch a few-states few-edges A =
     answer-fits n start from to marks c needs few-edges (replicate lentRoom 0) room (replicate lentScratch 0) scratch refl (a .verdict)
     (subst (λ (f : Finding). ByCause f (lent n start from to marks) c needs (replicate lentRoom 0) room (replicate lentScratch 0) scratch (a .verdict))
-    (enough n start from to marks c needs few-states few-edges) A)
+    (enough n start from to marks c needs few-states few-edges) (A .says))
 
 -- a job that was judged has its reply
 pub job-reply : (j : Job) → Limited j → {out : List ℕ} {size : ℕ} (G : Judged (jobTable j) (j .condition) (j .needs) out size)

@@ -19,7 +19,7 @@ use Rattle.judge_text.specs.Reply.{TwoRuns}
 
 -- by the verdicts
 module _ (c : Acceptance) {room room' scratch scratch' : List ℕ} where
-  same-text : (v w : Verdict) → Alike v w room room' scratch scratch' → (answerText v c room ≡ answerText w c room') ⊎ TwoRuns (answerText v c room) (answerText w c room')
+  same-text : (v w : Verdict) {d e : ℕ} → Alike v w d e room room' scratch scratch' → (answerText v c room ≡ answerText w c room') ⊎ TwoRuns (answerText v c room) (answerText w c room')
   unfolding answerText topText
   same-text (Run p q i) (Run p' q' i') A = inr (record {
     condition = c;

@@ -52,6 +52,7 @@ fn show_refused(number: u32, place: u32, out: &mut [u8; MOST_PRINTED]) -> usize
     let room = [0u32; 0];
     let refused = Answer {
         verdict: Verdict::Refused { number, place },
+        depth: 0,
     };
     show(refused, Acceptance::Buchi(0), &room, out)
 }

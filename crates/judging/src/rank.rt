@@ -4,8 +4,8 @@ ghost use Prim.Native.Nat.{max};
 ghost use Rattle.judging.specs.Answer.{largest, rank};
 use table::Acceptance;
 
-// The larger of two needs.
-fn larger(a: u32, b: u32) -> u32
+// The larger of two numbers.
+pub(crate) fn larger(a: u32, b: u32) -> u32
     ensures { λ r. ⌜ r ≡ max a b ⌝ }
 {
     if a < b { b } else { a }

@@ -44,7 +44,7 @@ no-more (Refused n₁ l₁) (Run p q i) k n l b = absurd (omega (arith, k))
 no-more (Refused n₁ l₁) Empty k n l b = absurd (omega (arith, k))
 no-more (Refused n₁ l₁) (Refused n₂ l₂) k n l b = rw (n, l)
 
-alike-same : (v w : Verdict) {room₁ room₂ scratch₁ scratch₂ : List ℕ} → Alike v w room₁ room₂ scratch₁ scratch₂
+alike-same : (v w : Verdict) {d e : ℕ} {room₁ room₂ scratch₁ scratch₂ : List ℕ} → Alike v w d e room₁ room₂ scratch₁ scratch₂
     → SameButLasso (answerNumbers v) (answerNumbers w) room₁ room₂ scratch₁ scratch₂
 alike-same v w A =
     record {

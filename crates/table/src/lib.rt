@@ -37,9 +37,10 @@ pub enum Verdict {
     Refused { number: u32, place: u32 },
 }
 
-// The judge's answer.
+// The judge's answer: the verdict and, for an empty Streett verdict, how deep the erasing went (0 for others).
 pub struct Answer {
     pub verdict: Verdict,
+    pub depth: u32,
 }
 
 // A refusal that is no edge's.

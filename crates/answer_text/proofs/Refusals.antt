@@ -8,6 +8,7 @@ use lib.Dec.{leb}
 use lib.ListN.{length, replicate, length-append}
 use borrow.Author.Tests.{le-leb}
 use Rattle.table.specs.declared.Acceptance.the-variants.{Buchi}
+use Rattle.table.specs.declared.Finding.the-variants as Finding
 use Rattle.table.specs.declared.Verdict.the-variants.{Refused}
 use Rattle.puts.specs.Put.{decimal}
 use Rattle.puts.proofs.Puts.{decimal-few}
@@ -46,6 +47,10 @@ bottom-most = omega arith
 pub refused-few : (number place : ℕ) → number < 2 ^ 32 → place < 2 ^ 32 → length (refusedText number place) ≤ 73
 unfolding answerText
 refused-few number place l h = omega (arith, length-append (topText (Refused number place) (Buchi 0)) (bottomText [] []), top-most number place l h, bottom-most)
+
+-- one refusal, one text
+pub same-text : {number place x p : ℕ} → Finding.Refused number place ≡ Finding.Refused x p → refusedText number place ≡ refusedText x p
+same-text {number} {place} {x} {p} q = let a : number ≡ x = cc in let b : place ≡ p = cc in rw (a, b)
 
 -- ---- a text that fits
 

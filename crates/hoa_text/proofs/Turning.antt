@@ -17,7 +17,7 @@ use Rattle.job_text.specs.declared.reader.Reading.{Reading}
 use Rattle.job_text.specs.Value.{Edge, padTo}
 use Rattle.job_text.specs.Job.{mostJobEdges, Job, Outcome, job, fault, readJob}
 use Rattle.job_text.specs.Reading.{readingOf, cellsOf, Read}
-use Rattle.answer_text.specs.Printed.{Prints}
+use Rattle.answer_text.specs.Printed.{refusedText, Prints}
 use Rattle.writing.specs.declared.Written.{Written}
 use Rattle.writing.specs.declared.Written.the-variants as written
 use Rattle.writing.specs.Writing.{writtenOf, outputOf}
@@ -26,10 +26,9 @@ use Rattle.hoa_writer.specs.Writing.{mostBytes, writeRefusal, Writes}
 use Rattle.hoa_writer.proofs.Writings.{not-large}
 use Rattle.hoa_writer.proofs.Size.{most-bytes}
 use Rattle.job_text.specs.Asked.{edgeCells, jobTable}
-use Rattle.judge_text.specs.Replied.{refusedText}
 use Rattle.judge_text.proofs.Limits.{Limited, Bounded, read-bounded}
 use Rattle.job_text.proofs.Tables.{unlike, part-is}
-use Rattle.judge_text.proofs.Telling.{same-text, printed-all}
+use Rattle.answer_text.proofs.Refusals.{same-text, printed-all}
 use Rattle.hoa_text.specs.Turned.{writtenFor, turned, Stands, Turned}
 
 -- ---- what the writer gives for a job

@@ -10,7 +10,7 @@ use Rattle.job_text.specs.Job.{Outcome, job, fault, readJob}
 use Rattle.hoa_writer.specs.Written.{hoaText}
 use Rattle.hoa_writer.specs.Writing.{mostBytes}
 use Rattle.job_text.specs.Asked.{jobTable}
-use Rattle.judge_text.specs.Replied.{refusedText}
+use Rattle.answer_text.specs.Printed.{refusedText}
 
 -- "the HOA text out, or the six lines of the refusal": of rows 1 to 7, the only ones that a job can come to
 abbrev pub writtenFor : Finding → List ℕ → List ℕ

@@ -1,15 +1,12 @@
 // From a job text to a text of the Hanoi format, bytes to bytes, for every byte string (docs/RULES.md, "The Hanoi format", the writer). Reads by
 // `job_text`, writes by `hoa_writer`, prints a refusal by `answer_text`. What a text is turned into is in specs/Turned.antt.
 use answer_text::Printed;
-use answer_text::print;
+use answer_text::print_refused;
 use hoa_writer::write_hoa;
 use job_text::reader::read;
-use table::Acceptance;
-use table::Answer;
 use table::Finding;
-use table::Verdict;
 use writing::Written;
-ghost use Rattle.judge_text.specs.Replied.{refusedText};
+ghost use Rattle.answer_text.specs.Printed.{refusedText};
 ghost use Rattle.hoa_text.specs.Turned.{Stands, Turned};
 
 // No text that is written is longer: 256 states, 512 edges, 32 marks.
@@ -19,12 +16,7 @@ pub const MOST_WRITTEN: usize = 52205;
 fn tell_refused(number: u32, place: u32, out: &mut [u8; MOST_WRITTEN]) -> usize
     ensures { λ r. ⌜ Stands (refusedText number place) (now (out .exit)) r ⌝ }
 {
-    let room = [0u32; 0];
-    let refused = Answer {
-        verdict: Verdict::Refused { number, place },
-        depth: 0,
-    };
-    match print(refused, Acceptance::Buchi(0), &room, out) {
+    match print_refused(number, place, out) {
         Printed::Text { length } => length,
         // never: six lines fit
         Printed::Refused {

@@ -92,7 +92,8 @@ unfolding spelt
 spelt-last value base n [] x = refl
 spelt-last value base n (b ∷ bs) x = go (value b) (λ d. spelt-last value base (n * base + d) bs x)
   where
-    go : (o : Option ℕ) → ((d : ℕ) → spelt value base (n * base + d) (bs ++ (x ∷ [])) ≡ andThen (spelt value base (n * base + d) bs) (λ a. andThen (value x) (λ d. some (a * base + d))))
+    go : (o : Option ℕ)
+        → ((d : ℕ) → spelt value base (n * base + d) (bs ++ (x ∷ [])) ≡ andThen (spelt value base (n * base + d) bs) (λ a. andThen (value x) (λ d. some (a * base + d))))
         → andThen o (λ d. spelt value base (n * base + d) (bs ++ (x ∷ [])))
         ≡ andThen (andThen o (λ d. spelt value base (n * base + d) bs)) (λ a. andThen (value x) (λ d. some (a * base + d)))
     go none h = refl
@@ -130,7 +131,9 @@ second-false false b e = refl
 unled-in : (k n : ℕ) → n ≤ k → (ltb 1 (length (decimalIn k n)) && eqb (getD (decimalIn k n) 0 0) 48) ≡ false
 unled-in zero n l = rw (last-digit n)
 unled-in (suc k) n l =
-    below n 10 (λ s. rw (one-digit k n s)) (λ s. second-false (ltb 1 (length (decimalIn (suc k) n))) (eqb (getD (decimalIn (suc k) n) 0 0) 48) (ne-eqb (getD (decimalIn (suc k) n) 0 0) 48 (no-zero (suc k) n l (omega arith))))
+    let first = getD (decimalIn (suc k) n) 0 0 in
+    below n 10 (λ s. rw (one-digit k n s))
+    (λ s. second-false (ltb 1 (length (decimalIn (suc k) n))) (eqb first 48) (ne-eqb first 48 (no-zero (suc k) n l (omega arith))))
 
 -- .. of a number's own digits
 unled : (n : ℕ) → (ltb 1 (length (decimal n)) && eqb (getD (decimal n) 0 0) 48) ≡ false

@@ -76,7 +76,8 @@ hex-spell set (suc k) l h =
     let high : 28 - 4 * k + 4 ≡ 32 - 4 * k = omega arith in
     let four : set / p / 16 ≡ set / 2 ^ (32 - 4 * k) = shr-shr set (28 - 4 * k) 4 ∙ ap (λ (i : ℕ). set / 2 ^ i) high in
     let e : set / 2 ^ (32 - 4 * k) * 16 + set / p % 16 ≡ set / p = omega (arith, four) in
-    rw (hex-more set k, spelt-last hexDigit 16 0 (joined (hexAt set) k) (hexByte (set / p % 16)), hex-spell set k l (omega arith), byte-back (set / p % 16) (omega arith), low) (ap some e)
+    let last = spelt-last hexDigit 16 0 (joined (hexAt set) k) (hexByte (set / p % 16)) in
+    rw (hex-more set k, last, hex-spell set k l (omega arith), byte-back (set / p % 16) (omega arith), low) (ap some e)
 
 -- "marks as eight lower-case hex digits"
 pub hex-back : (set : ℕ) → set < 2 ^ width → hexWord (hexText set) ≡ some set

@@ -18,7 +18,8 @@ use Rattle.job_text.specs.Value.{number, textForm, kind, needs, Edge, edge, end
 use Rattle.job_text.specs.Job.{form=, states=, start=, kind=, count=, need=, edges=, edge=, end=}
 use Rattle.table.specs.declared.Acceptance.the-variants.{Buchi}
 use Rattle.table.specs.Table.{lent}
-use Rattle.job_text.specs.Job.{mostBytes, Job, jobLines, readJob, Found, found, above, unlimited, asked, next, _>>=_, give, formLine, kindLine, Head, countLines, stateLines, headLines, edgeLines, endLines, bodyLines}
+use Rattle.job_text.specs.Job.{mostBytes, Job, jobLines, readJob, found, above, unlimited, asked, next, _>>=_, give}
+use Rattle.job_text.specs.Job.{formLine, kindLine, Head, countLines, headLines, edgeLines, endLines, bodyLines}
 use Rattle.job_writer.specs.Written.{hexText, shown, edgeText, edgesText, headText, jobText}
 use Rattle.table.specs.declared.Finding.the-variants.{Sound}
 use Rattle.table.specs.Refusal.{refusal}
@@ -74,7 +75,9 @@ from-more f a (suc k) rest =
 joined-from : (f : ℕ → List ℕ) (k : ℕ) (rest : List ℕ) → joined f k ++ rest ≡ joinedFrom f 0 k rest
 unfolding joined
 joined-from f zero rest = refl
-joined-from f (suc k) rest = append-assoc (joined f k) (f k) rest ∙ joined-from f k (f k ++ rest) ∙ ap (λ (b : ℕ). joinedFrom f 0 k (f b ++ rest)) (omega arith) ∙ from-more f 0 k rest
+joined-from f (suc k) rest =
+    append-assoc (joined f k) (f k) rest ∙ joined-from f k (f k ++ rest) ∙ ap (λ (b : ℕ). joinedFrom f 0 k (f b ++ rest)) (omega arith)
+    ∙ from-more f 0 k rest
 
 module _ (from to marks : List ℕ) where
   -- edge e as the reader gives it
@@ -104,7 +107,8 @@ module _ (from to marks : List ℕ) where
       let f = getD from e 0 in
       let t = getD to e 0 in
       let set = getD marks e 0 in
-      next-there edge= (edgeValue f t set) rest edge (edge-over f t set) (edgeAt e) (edge-back f t set (S .from-small e l) (S .to-small e l) (S .marks-small e l)) unlimited refl place
+      let says = edge-back f t set (S .from-small e l) (S .to-small e l) (S .marks-small e l) in
+      next-there edge= (edgeValue f t set) rest edge (edge-over f t set) (edgeAt e) says unlimited refl place
 
   -- all of them
   edges-there : (m : ℕ) → Small m → (k a : ℕ) → a + k ≤ m → (rest : List ℕ) (place : ℕ)
@@ -140,7 +144,8 @@ kind-there : (rest : List ℕ) (place : ℕ) → kindLine form-is.Two place (lin
 unfolding kind same
 kind-there rest place = perhaps-there kind= buchi rest kind (over-test newline (kind= ++ buchi) refl) kind-is.Buchi refl kind-is.Streett place
 
-need-there : (rest : List ℕ) (place : ℕ) → next (asked need= (needs kind-is.Buchi 1) unlimited) place (lines (shown need= dash ++ rest)) ≡ found (padded []) (place + 1) (lines rest)
+need-there : (rest : List ℕ) (place : ℕ)
+    → next (asked need= (needs kind-is.Buchi 1) unlimited) place (lines (shown need= dash ++ rest)) ≡ found (padded []) (place + 1) (lines rest)
 unfolding needs same
 need-there rest place = next-there need= dash rest (needs kind-is.Buchi 1) (over-test newline (need= ++ dash) refl) (padded []) refl unlimited refl place
 
@@ -224,9 +229,10 @@ module _ (n start : ℕ) (from to marks : List ℕ) (to-length : length to ≡ l
   pub read-back : length (jobText (lent n start from to marks)) ≤ mostBytes → ReadsBack (lent n start from to marks) (jobText (lent n start from to marks))
   unfolding readJob
   read-back l =
-      let f : map (λ (e : Edge). e .from) (edgesFrom from to marks 0 (length from)) ≡ from = cells-are from to marks (λ e. e .from) from (λ e. refl) (length from) 0 (omega arith) in
-      let t : map (λ (e : Edge). e .to) (edgesFrom from to marks 0 (length from)) ≡ to = cells-are from to marks (λ e. e .to) to (λ e. refl) (length from) 0 (omega arith) in
-      let m : map (λ (e : Edge). e .marks) (edgesFrom from to marks 0 (length from)) ≡ marks = cells-are from to marks (λ e. e .marks) marks (λ e. refl) (length from) 0 (omega arith) in
+      let es = edgesFrom from to marks 0 (length from) in
+      let f : map (λ (e : Edge). e .from) es ≡ from = cells-are from to marks (λ e. e .from) from (λ e. refl) (length from) 0 (omega arith) in
+      let t : map (λ (e : Edge). e .to) es ≡ to = cells-are from to marks (λ e. e .to) to (λ e. refl) (length from) 0 (omega arith) in
+      let m : map (λ (e : Edge). e .marks) es ≡ marks = cells-are from to marks (λ e. e .marks) marks (λ e. refl) (length from) 0 (omega arith) in
       record {
         said = said;
         read = rw (le-ltb mostBytes (length (jobText (lent n start from to marks))) l, job-there);

@@ -20,10 +20,10 @@ use Rattle.table.proofs.Sound.{rabin-few}
 use Rattle.table.proofs.Door.{refused-row}
 use Rattle.marks.proofs.Cases.{below}
 use Rattle.job_text.specs.Job.{mostJobEdges}
-use Rattle.answer_text.specs.Printed.{answerText, mostPrinted}
+use Rattle.answer_text.specs.Printed.{answerText, refusedText, mostPrinted}
 use Rattle.answer_text.proofs.Room.{Brief, Briefs, enough}
 use Rattle.judging.specs.Answer.{Given, Named, ByCause}
-use Rattle.judge_text.specs.Replied.{lentRoom, refusedText}
+use Rattle.judge_text.specs.Replied.{lentRoom}
 use Rattle.judge_text.proofs.Lent.{permitted}
 
 -- ---- cells that are edges of a job

@@ -10,7 +10,7 @@ use borrow.Author.Tests.{le-leb, lt-ltb, le-ltb}
 use Rattle.table.specs.Table.{lent}
 use Rattle.job_text.specs.Value.{Edge, padTo}
 use Rattle.job_text.specs.Job.{mostJobStates, mostJobEdges, Job, Outcome, job, fault}
-use Rattle.answer_text.specs.Printed.{mostPrinted}
+use Rattle.answer_text.specs.Printed.{refusedText, mostPrinted}
 use Rattle.hoa_rows.specs.Lent.{fits}
 use Rattle.hoa.specs.declared.Hoa.{Hoa}
 use Rattle.hoa.specs.declared.HoaFinding.{HoaFinding}
@@ -20,7 +20,7 @@ use Rattle.hoa.specs.Returned.{refusedHoa, readOf, returned, cellsBy, ReadInto}
 use Rattle.hoa.proofs.Lawful.{Lawful, lawful}
 use Rattle.hoa.proofs.Places.{fault-within}
 use Rattle.job_text.specs.Asked.{jobTable}
-use Rattle.judge_text.specs.Replied.{refusedText, ReplyTo, Holds}
+use Rattle.judge_text.specs.Replied.{ReplyTo, Holds}
 use Rattle.judge_text.specs.HoaReplied.{mostHoaBytes, hoaOutcome, HoaReplied}
 use Rattle.judge_text.specs.inner.{Judged}
 use Rattle.job_text.proofs.Tables.{part-is}

@@ -10,10 +10,10 @@ use Rattle.table.specs.declared.Finding.the-variants.{Sound, Refused}
 use Rattle.table.specs.declared.Verdict.the-variants.{Refused as RefusedVerdict}
 use Rattle.table.proofs.Door.{refused-row}
 use Rattle.job_text.specs.Job.{mostBytes, Job, Outcome, job, fault, readJob}
-use Rattle.answer_text.specs.Printed.{topText, answerText, mostPrinted}
+use Rattle.answer_text.specs.Printed.{topText, answerText, refusedText, mostPrinted}
 use Rattle.job_text.proofs.Jobs.{too-long}
 use Rattle.job_text.specs.Asked.{jobTable, firstCause}
-use Rattle.judge_text.specs.Replied.{refusedText, JobReply, ReplyTo, Replied}
+use Rattle.judge_text.specs.Replied.{JobReply, ReplyTo, Replied}
 use Rattle.judge_text.specs.Reply.{RefusedFor, Answered}
 use Rattle.judge_text.proofs.Limits.{Bounded, read-bounded}
 use Rattle.judge_text.proofs.Lent.{By, by-rows}

@@ -1,14 +1,10 @@
 -- From what the reader, the judge and the printer give to the whole promise. A text is read as its outcome says; so each lemma goes by the outcome,
 -- and the reading names the case. Assumes nothing.
 use mathlib.Core.Path.{_≡_, refl, sym, ap, _∙_, subst}
-use mathlib.Core.Bool.{true}
 use mathlib.Core.List.{List, _++_, map}
 use Prim.Native.Nat.{ℕ, _-_, _≤_}
 use native.Mathlib.Omega.{arith}
-use lib.Dec.{leb}
 use lib.ListN.{length, take, drop, replicate, length-append, length-map, length-take}
-use lib.Seq.{take-append-seam}
-use borrow.Author.Tests.{le-leb}
 use Rattle.table.specs.declared.Acceptance.{Acceptance}
 use Rattle.table.specs.declared.Answer.{Answer}
 use Rattle.table.specs.declared.Finding.{Finding}
@@ -20,10 +16,11 @@ use Rattle.job_text.specs.declared.reader.Reading.{Reading}
 use Rattle.job_text.specs.Value.{Edge, padTo}
 use Rattle.job_text.specs.Job.{mostJobStates, mostJobEdges, Job, Outcome, job, fault, readJob}
 use Rattle.job_text.specs.Reading.{readingOf, cellsOf, Read}
-use Rattle.answer_text.specs.Printed.{answerText, mostPrinted, Prints}
+use Rattle.answer_text.specs.Printed.{answerText, refusedText, mostPrinted, Prints}
+use Rattle.answer_text.proofs.Refusals.{same-text, printed-all, never-refused}
 use Rattle.judging.specs.Answer.{ByCause, Answers}
 use Rattle.job_text.specs.Asked.{edgeCells, jobTable}
-use Rattle.judge_text.specs.Replied.{lentRoom, lentScratch, refusedText, JobReply, ReplyTo, Holds, Replied}
+use Rattle.judge_text.specs.Replied.{lentRoom, lentScratch, JobReply, ReplyTo, Holds, Replied}
 use Rattle.judge_text.specs.inner.{Judged}
 use Rattle.job_text.proofs.Tables.{unlike, part-is}
 use Rattle.judge_text.proofs.Limits.{Limited, Bounded, read-bounded}
@@ -31,10 +28,6 @@ use Rattle.judge_text.proofs.Lent.{enough}
 use Rattle.judge_text.proofs.Fits.{answer-fits}
 
 -- ---- what the reader refuses
-
--- one refusal, one text
-pub same-text : {number place x p : ℕ} → Refused number place ≡ Refused x p → refusedText number place ≡ refusedText x p
-same-text {number} {place} {x} {p} q = let a : number ≡ x = cc in let b : place ≡ p = cc in rw (a, b)
 
 refused-by : (o : Outcome) (r : Reading) (number place : ℕ) → r ≡ readingOf o → r .finding ≡ Refused number place → ReplyTo o (refusedText number place)
 refused-by (job j) r number place e f = absurd (unlike (sym f ∙ ap (λ (x : Reading). x .finding) e))
@@ -120,27 +113,6 @@ module _ {text b b' b'' from to marks : List ℕ} {r : Reading} (R : Read text b
       record { printed = reply .printed; says = reply .says; held = reply .held }
 
 -- ---- what is printed
-
-module _ {text out out' : List ℕ} {r : Printed} (fits : length text ≤ length out) (P : Prints text out out' r) where
-  there : leb (length text) (length out) ≡ true
-  there = le-leb (length text) (length out) fits
-
-  whole : r ≡ printed.Text (length text)
-  whole = P .answer ∙ rw there
-
-  -- a text that fits stands in the buffer, with zeros after it
-  pub printed-all : {size : ℕ} → r ≡ printed.Text size → (size ≡ length text) × (out' ≡ text ++ replicate (length out - size) 0)
-  printed-all {size} e =
-      let q : printed.Text size ≡ printed.Text (length text) = sym e ∙ whole in
-      let n : size ≡ length text = cc in
-      (n, P .buffer ∙ rw (there, n))
-
-  -- .. and is not refused
-  pub never-refused : {C : Type 0} {number place : ℕ} → r ≡ printed.Refused number place → C
-  never-refused {C} {number} {place} e =
-      let q : printed.Refused number place ≡ printed.Text (length text) = sym e ∙ whole in
-      let z : _≡_ {A = ℕ} 0 1 = cc in
-      absurd (omega arith)
 
 -- in a buffer that is as long as every answer needs
 module _ {text out out' : List ℕ} {r : Printed} (wide : length out ≡ mostPrinted) (fits : length text ≤ mostPrinted) (P : Prints text out out' r) where

@@ -1,16 +1,14 @@
 -- From bytes to bytes: what is printed for a text, every text (docs/RULES.md, "The job text and the printed answer" and "What comes back"). Assumes nothing.
 use mathlib.Core.Path.{_≡_}
-use mathlib.Core.List.{List, [], _++_}
+use mathlib.Core.List.{List, _++_}
 use Prim.Native.Nat.{ℕ, _+_, _-_, _*_}
 use lib.ListN.{length, replicate}
 use Rattle.marks.specs.Mark.{width}
-use Rattle.table.specs.declared.Acceptance.the-variants.{Buchi}
 use Rattle.table.specs.declared.Answer.{Answer}
-use Rattle.table.specs.declared.Verdict.the-variants.{Refused}
 use Rattle.table.specs.Refusal.{refusal}
 use Rattle.job_text.specs.Job.{mostJobStates, mostJobEdges, Job, Outcome, job, fault, readJob}
 use Rattle.job_text.specs.Asked.{jobTable}
-use Rattle.answer_text.specs.Printed.{answerText, mostPrinted}
+use Rattle.answer_text.specs.Printed.{answerText, refusedText, mostPrinted}
 use Rattle.judging.specs.Answer.{judgeRefusal, Answers}
 
 -- ---- what the judge is asked
@@ -24,10 +22,6 @@ abbrev pub lentScratch : ℕ
 lentScratch = 8 * mostJobStates + 4 * mostJobEdges + 64
 
 -- ---- what is printed
-
--- a refusal: number and place, no pair, no edges
-abbrev pub refusedText : ℕ → ℕ → List ℕ
-refusedText number place = answerText (Refused number place) (Buchi 0) []
 
 -- a job's printed answer: there are an answer, a room and a scratch that the judge's contract allows for the job's table and condition, and the text is
 -- theirs. What is lent is enough: the first cause is one of rows 1 to 7, and rows 8 and 9 never come out

@@ -10,9 +10,8 @@ use Rattle.table.specs.declared.Verdict.{Verdict}
 use Rattle.table.specs.declared.Verdict.the-variants.{Run}
 use Rattle.job_text.specs.Job.{Job, job, readJob}
 use Rattle.job_text.specs.Asked.{jobTable, firstCause}
-use Rattle.answer_text.specs.Printed.{topText, bottomText, answerText}
+use Rattle.answer_text.specs.Printed.{topText, bottomText, answerText, refusedText}
 use Rattle.judging.specs.Answer.{Decided}
-use Rattle.judge_text.specs.Replied.{refusedText}
 
 -- a row of the table of causes that a text can come to: 1 to 7, 20 to 23
 abbrev pub TextRow : ℕ → Type 0

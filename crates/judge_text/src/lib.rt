@@ -12,10 +12,10 @@ use table::Finding;
 use table::Verdict;
 ghost use Prim.Native.Nat.{_≤_};
 ghost use lib.ListN.{length};
-ghost use Rattle.answer_text.specs.Printed.{answerText, mostPrinted};
+ghost use Rattle.answer_text.specs.Printed.{answerText, refusedText, mostPrinted};
 ghost use Rattle.table.specs.Table.{lent};
 ghost use Rattle.job_text.specs.Job.{mostJobStates, mostJobEdges};
-ghost use Rattle.judge_text.specs.Replied.{refusedText, Holds, Replied};
+ghost use Rattle.judge_text.specs.Replied.{Holds, Replied};
 ghost use Rattle.judge_text.specs.HoaReplied.{HoaReplied};
 ghost use Rattle.judge_text.specs.inner.{Judged};
 

@@ -30,7 +30,7 @@ use Rattle.job_text.proofs.Tables.{unlike, part-is}
 use Rattle.answer_text.specs.declared.Printed.{Printed}
 use Rattle.answer_text.specs.declared.Printed.the-variants as printed
 use Rattle.answer_text.specs.Printed.{refusedText, Prints}
-use Rattle.answer_text.proofs.Refusals.{printed-all}
+use Rattle.answer_text.proofs.Refusals.{same-text, printed-all}
 use Rattle.writing.specs.declared.Written.{Written}
 use Rattle.writing.specs.declared.Written.the-variants as written
 use Rattle.writing.specs.Writing.{orElse, writtenOf, outputOf, Stands}
@@ -50,10 +50,6 @@ told-stands wide fits P e = let all = printed-all fits P e in record { all = all
 -- what is told lies within what was lent
 pub turned-within : {text out : List ℕ} {size : ℕ} → Turned text out size → size ≤ length out
 turned-within {text} {size = size} T = omega (arith, T .held .all, ap length (T .held .cells), length-append (turned (readJob text)) (replicate (mostBytes - size) 0))
-
--- one refusal, one text
-same-text : {number place x p : ℕ} → Refused number place ≡ Refused x p → refusedText number place ≡ refusedText x p
-same-text {number} {place} {x} {p} q = let a : number ≡ x = cc in let b : place ≡ p = cc in rw (a, b)
 
 -- ---- what the writer gives
 
@@ -161,7 +157,8 @@ module _ (n start : ℕ) (from to marks : List ℕ) (k : ℕ) (l a b : List ℕ)
     unfolding made t
     text-is =
         let rows : refusal made (Buchi 1) [] ≡ Sound =
-        subst (λ (x : Table). refusal x (Buchi 1) [] ≡ Sound) (sym made-is) (faithful n start from to marks k (length l) (length a) (length b) (ap numberOf (sym (O .answered)) ∙ none) .table) in
+        subst (λ (x : Table). refusal x (Buchi 1) [] ≡ Sound) (sym made-is)
+        (faithful n start from to marks k (length l) (length a) (length b) (ap numberOf (sym (O .answered)) ∙ none) .table) in
         let only = by-size states first (take (edges - 0) (drop 0 l')) (take (edges - 0) (drop 0 a')) (take (edges - 0) (drop 0 b')) rows in
         ap (λ (f : Finding). toldOr f (jobText made)) only
         ∙ ap (λ (x : Table). toldOr (cond (tooLarge x) (Refused 23 0) Sound) (jobText x)) made-is
@@ -191,17 +188,21 @@ read-by (job j) r b b' b'' from to marks e s f g h =
 
 module _ {text b b' b'' from to marks : List ℕ} {r : Reading} (R : Read text b b' b'' from to marks r) where
   -- the reader refuses, and the refusal stands in the output
-  pub reader-refuses : {number place : ℕ} {out : List ℕ} {size : ℕ} → r .finding ≡ Refused number place → Stands mostBytes (refusedText number place) out size → Turned text out size
+  pub reader-refuses : {number place : ℕ} {out : List ℕ} {size : ℕ} → r .finding ≡ Refused number place → Stands mostBytes (refusedText number place) out size
+      → Turned text out size
   reader-refuses {number} {place} f S = record { held = rw (refused-by (readJob text) r number place (R .reading) f) S }
 
+  -- the table in the parts of the tables that hold edges
+  abbrev pub held : Table
+  held = lent (r .states) (r .start) (take (r .edges - 0) (drop 0 from)) (take (r .edges - 0) (drop 0 to)) (take (r .edges - 0) (drop 0 marks))
+
   module _ (sound : r .finding ≡ Sound) where
-    by-kind : turned (readJob text)
-        ≡ turnedBy (r .condition) (lent (r .states) (r .start) (take (r .edges - 0) (drop 0 from)) (take (r .edges - 0) (drop 0 to)) (take (r .edges - 0) (drop 0 marks)))
+    by-kind : turned (readJob text) ≡ turnedBy (r .condition) held
     by-kind = read-by (readJob text) r b b' b'' from to marks (R .reading) sound (R .froms) (R .tos) (R .sets)
 
     -- a job of the kind buchi
     pub buchi-turned : {k : ℕ} {out : List ℕ} {size : ℕ} → r .condition ≡ Buchi k
-        → Stands mostBytes (turnedTable (lent (r .states) (r .start) (take (r .edges - 0) (drop 0 from)) (take (r .edges - 0) (drop 0 to)) (take (r .edges - 0) (drop 0 marks))) k) out size
+        → Stands mostBytes (turnedTable held k) out size
         → Turned text out size
     buchi-turned e S = record { held = rw (by-kind, e) S }
 

@@ -1,22 +1,18 @@
--- `tell_refused` meets its contract: a refusal's six lines fit (`refused-fits`), so `print` gives their length and writes them all (`stands-whole`); the
--- other arm is never come to (`never-refused`). Assumes nothing.
+-- `tell_refused` meets its contract: a refusal's six lines fit (`refused-few`), so `print_refused` gives their length and writes them all (`stands-whole`);
+-- the other arm is never come to (`never-refused`). Assumes nothing.
 use mathlib.Core.Path.{_≡_}
 use native.Mathlib.Omega.{arith}
 use lib.ListN.{length}
 use denote.Ref.{now}
+use Rattle.answer_text.proofs.Refusals.{refused-few, never-refused}
 use Rattle.hoa_writer.specs.Writing.{mostBytes}
-use borrow.Author.Needs.{needs}
-use Rattle.judge_text.proofs.Fits.{refused-fits}
-use Rattle.judge_text.proofs.Telling.{never-refused}
 use Rattle.hoa_text.proofs.Turning.{stands-whole}
+use borrow.Author.Needs.{needs}
 use Rattle.hoa_text.proofs.tell_refused.Statement.{statement}
 use Rattle.hoa_text.proofs.tell_refused.Tie as tie
 
-slice-aggregate-print : tie.Need-slice-aggregate-print
-slice-aggregate-print c = search needs
-
-print-requires : tie.Need-print-requires
-print-requires c κs = search needs
+print-refused-requires : tie.Need-print-refused-requires
+print-refused-requires c κs = search needs
 
 enum-known-length : tie.Need-enum-known-length
 enum-known-length c = search needs
@@ -27,18 +23,19 @@ enum-told c = search needs
 returns : tie.Need-returns
 returns c =
     let at-print = c .before .before .before in
-    let a = at-print .before .before .before .args in
+    let a = at-print .before .before .args in
     let wide : length (now (a .out)) ≡ mostBytes = search needs in
-    let short = refused-fits (a .number) (a .place) (omega arith) (omega arith) in
-    stands-whole wide (omega (arith, wide, short)) (at-print .print .ensures) (c .before .length .given .1)
+    let short = refused-few (a .number) (a .place) (omega arith) (omega arith) in
+    stands-whole wide (omega (arith, wide, short)) (at-print .print-refused .ensures) (c .before .length .given .1)
 
 returns-2 : tie.Need-returns-2
 returns-2 c =
     let at-print = c .before .before in
-    let a = at-print .before .before .before .args in
+    let a = at-print .before .before .args in
     let wide : length (now (a .out)) ≡ mostBytes = search needs in
-    let short = refused-fits (a .number) (a .place) (omega arith) (omega arith) in
-    never-refused (omega (arith, wide, short)) (at-print .print .ensures) (c .enum-told .given .1)
+    let short = refused-few (a .number) (a .place) (omega arith) (omega arith) in
+    never-refused (omega (arith, wide, short)) (at-print .print-refused .ensures) (c .enum-told .given .1)
 
 pub tell-refused-spec : {M : Type 1} → statement M
-tell-refused-spec = tie.close (tie.spec slice-aggregate-print print-requires enum-known-length enum-told returns returns-2)
+tell-refused-spec =
+    tie.close (tie.spec print-refused-requires enum-known-length enum-told returns returns-2)

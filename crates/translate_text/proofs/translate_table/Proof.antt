@@ -40,8 +40,9 @@ part-write-made-start c = search needs
 
 part-write-made-end : tie.Need-part-write-made-end
 part-write-made-end c =
-    let at-translate = c .before .before .before .before .before .before .before in
-    omega (arith, made-fits (at-translate .translate .ensures) (c .before .before .translation2 .given .1) .0, at-translate .translate .kept .1 .1 .1 .1 .1 .1 .0)
+    let at-known = c .before .before in
+    let call = at-known .before .before .before .before .before .translate in
+    omega (arith, made-fits (call .ensures) (at-known .translation2 .given .1) .0, call .kept .1 .1 .1 .1 .1 .1 .0)
 
 sub-write-made-2 : tie.Need-sub-write-made-2
 sub-write-made-2 c = search needs
@@ -51,8 +52,9 @@ part-write-made-start-2 c = search needs
 
 part-write-made-end-2 : tie.Need-part-write-made-end-2
 part-write-made-end-2 c =
-    let at-translate = c .before .before .before .before .before .before .before .before .before in
-    omega (arith, made-fits (at-translate .translate .ensures) (c .before .before .before .before .translation2 .given .1) .1 .0, at-translate .translate .kept .1 .1 .1 .1 .1 .1 .1 .0)
+    let at-known = c .before .before .before .before in
+    let call = at-known .before .before .before .before .before .translate in
+    omega (arith, made-fits (call .ensures) (at-known .translation2 .given .1) .1 .0, call .kept .1 .1 .1 .1 .1 .1 .1 .0)
 
 sub-write-made-3 : tie.Need-sub-write-made-3
 sub-write-made-3 c = search needs
@@ -62,8 +64,9 @@ part-write-made-start-3 c = search needs
 
 part-write-made-end-3 : tie.Need-part-write-made-end-3
 part-write-made-end-3 c =
-    let at-translate = c .before .before .before .before .before .before .before .before .before .before .before in
-    omega (arith, made-fits (at-translate .translate .ensures) (c .before .before .before .before .before .before .translation2 .given .1) .1 .1, at-translate .translate .kept .1 .1 .1 .1 .1 .1 .1 .1 .0)
+    let at-known = c .before .before .before .before .before .before in
+    let call = at-known .before .before .before .before .before .translate in
+    omega (arith, made-fits (call .ensures) (at-known .translation2 .given .1) .1 .1, call .kept .1 .1 .1 .1 .1 .1 .1 .1 .0)
 
 write-made-requires : tie.Need-write-made-requires
 write-made-requires c κs = search needs
@@ -71,14 +74,14 @@ write-made-requires c κs = search needs
 returns : tie.Need-returns
 returns c =
     let at-translate = c .before .before .before .before .before .before .before .before in
-    let a = c .before .before .before .before .before .before .before .before .before .before .before .before .before .before .before .args in
+    let a = at-translate .before .before .before .before .before .before .before .args in
     refused-stands (a .n) (a .start) (now (a .from)) (now (a .to)) (now (a .marks)) (a .k) _ _ _ refl refl refl _ _ _ _ (at-translate .translate .ensures)
     (c .before .before .before .translation .given .1) (c .tell-refused .ensures)
 
 returns-2 : tie.Need-returns-2
 returns-2 c =
     let at-translate = c .before .before .before .before .before .before .before .before .before .before .before .before .before .before in
-    let a = c .before .before .before .before .before .before .before .before .before .before .before .before .before .before .before .before .before .before .before .before .before .args in
+    let a = at-translate .before .before .before .before .before .before .before .args in
     made-stands (a .n) (a .start) (now (a .from)) (now (a .to)) (now (a .marks)) (a .k) _ _ _ refl refl refl _ _ _ _ (at-translate .translate .ensures) _ _ _
     (c .before .before .before .before .before .before .before .before .before .translation2 .given .1) (c .write-made .ensures)
 

@@ -73,8 +73,9 @@ tell-refused-requires-3 c κs = search needs
 
 returns-2 : tie.Need-returns-2
 returns-2 c =
-    let at-told = c .before .before .before .before .before .before .before .before .before .before .before .before in
-    buchi-turned (at-told .before .before .read .ensures) (at-told .enum-told .given .1) (c .before .before .before .before .before .before .before .before .before .condition .given .1) (c .translate-table .ensures)
+    let at-kind = c .before .before .before .before .before .before .before .before .before in
+    let at-told = at-kind .before .before .before in
+    buchi-turned (at-told .before .before .read .ensures) (at-told .enum-told .given .1) (at-kind .condition .given .1) (c .translate-table .ensures)
 
 returns-3 : tie.Need-returns-3
 returns-3 c =

@@ -77,3 +77,11 @@ pair-needed p needs M pair d r l e h q =
       λ t. (l, record { absent = λ g. h (subst (λ (x : ℕ). has x M) (sym e) g); present = λ j k. subst (λ (x : ℕ). has (x + 1 + j) M) e (q .0 t j k) }),
       λ m. q .1 (λ j k. subst (λ (x : ℕ). has (x + 1 + j) M) (sym e) (m .1 .present j k)),
     )
+
+-- ---- one Streett pair
+
+pub answers-none : {P Q : Type 0} → (P → ⊥) → (true ≡ true) ↔ (P → Q)
+answers-none h = (λ e p. absurd (h p), λ g. refl)
+
+pub answers-so : {P Q : Type 0} (r : Bool) → P → (r ≡ true) ↔ Q → (r ≡ true) ↔ (P → Q)
+answers-so r p q = (λ e o. q .0 e, λ g. q .1 (g p))

@@ -193,3 +193,8 @@ arrived bs s from to marks at i p U l t es L b e =
 -- a list without edges
 pub no-edges : (s : ℕ) (from to marks es : List ℕ) → es ≡ [] → (t : Table) → s < t .states → Through t s es s 0 0
 no-edges s from to marks es e t l = rw e (record { walk = refl; below = l; marks = refl; counted = refl })
+
+-- a waiting edge, as one of a list
+pub go-waits : (from to marks : List ℕ) (p : Place) (e : ℕ) (r : Went) → e ≡ waiting → WaitSays from p r → GoSays from to marks p e r
+go-waits from to marks p e r q W t L S =
+    subst (λ (x : ℕ). WentSays t p x r) (sym q) (W t (record { proper = L .proper; from-is = L .from-is; to-is = refl; marks-is = refl }) S)

@@ -12,3 +12,5 @@ pub mod Going
 pub mod Conditions
 -- Lassos: from the walks to a lasso or its first fault
 pub mod Lassos
+-- Reading: what an answer text is, from its values
+pub mod Reading

@@ -1,65 +1,72 @@
-use native.Mathlib.Omega.{arith}
+-- `form::read_answer` meets its contract: the first words tell a run from the others. Assumes nothing.
+use mathlib.Core.Path.{sym, _∙_}
+use Prim.Native.Nat.{zero-le}
+use borrow.Author.Tests.{not-true, not-false}
+use denote.Ref.{now}
+use Rattle.puts.specs.Put.{decimalIn}
+use Rattle.answer_text.specs.Printed.{topText, bottomText, answerText}
+use Rattle.answer_check.specs.inner.{runHead, refusedHead}
+use Rattle.answer_check.proofs.Forms.{starts-fits}
+use Rattle.answer_check.proofs.Reading.{answer-empty, answer-run, answer-none, answer-refused, answer-not}
 use borrow.Author.Needs.{needs}
 use Rattle.answer_check.proofs.form.read_answer.Statement.{statement}
 use Rattle.answer_check.proofs.form.read_answer.Tie as tie
-use Rattle.answer_check.proofs.form.read_answer.Reads as reads
-use Rattle.answer_check.proofs.form.read_answer.Lts as lts
-use Rattle.answer_check.proofs.form.is_refusal.Reads as is-refusal-reads
-use Rattle.answer_check.proofs.form.read_run.Reads as read-run-reads
-use Rattle.answer_check.proofs.form.starts.Reads as starts-reads
-use Rattle.job_text.proofs.part.alike.Reads as alike-reads
 
--- src/form.rt:266:9
 slice-aggregate-alike : tie.Need-slice-aggregate-alike
 slice-aggregate-alike c = search needs
 
--- src/form.rt:264:8
 alike-requires : tie.Need-alike-requires
 alike-requires c κs = search needs
 
--- src/form.rt:268:9
 returns : tie.Need-returns
-returns c = search needs
+unfolding decimalIn topText bottomText answerText
+returns c = answer-empty (c .before .before .before .before .args .rabin) (now (c .before .before .before .before .args .text)) (sym (c .before .alike .ensures) ∙ c .if1 .taken)
 
--- src/form.rt:270:24
 slice-aggregate-starts : tie.Need-slice-aggregate-starts
 slice-aggregate-starts c = search needs
 
--- src/form.rt:270:8
 starts-requires : tie.Need-starts-requires
-starts-requires c κs = search needs
+starts-requires c κs = zero-le
 
--- src/form.rt:271:9
 read-run-requires : tie.Need-read-run-requires
-read-run-requires c κs = search needs
+unfolding decimalIn topText bottomText answerText
+read-run-requires c κs = starts-fits (now (c .before .before .before .before .before .before .before .args .text)) runHead 0 (sym (c .before .starts .ensures) ∙ c .if2 .taken) zero-le
 
--- src/form.rt:271:9
 returns-2 : tie.Need-returns-2
-returns-2 c = search needs
+unfolding decimalIn topText bottomText answerText
+returns-2 c =
+    let a = c .before .before .before .before .before .before .before .before .args in
+    answer-run (a .rabin) (now (a .text)) (sym (c .before .before .before .before .before .alike .ensures) ∙ c .before .before .before .before .if1 .left) (sym (c .before .before .starts .ensures) ∙ c .before .if2 .taken) (c .read-run .result) (c .read-run .ensures)
 
--- src/form.rt:273:25
 slice-aggregate-starts-2 : tie.Need-slice-aggregate-starts-2
 slice-aggregate-starts-2 c = search needs
 
--- src/form.rt:273:9
 starts-requires-2 : tie.Need-starts-requires-2
-starts-requires-2 c κs = search needs
+starts-requires-2 c κs = zero-le
 
--- src/form.rt:274:9
 returns-3 : tie.Need-returns-3
-returns-3 c = search needs
+unfolding decimalIn topText bottomText answerText
+returns-3 c =
+    let a = c .before .before .before .before .before .before .before .before .before .before .args in
+    answer-none (a .rabin) (now (a .text)) (sym (c .before .before .before .before .before .before .before .alike .ensures) ∙ c .before .before .before .before .before .before .if1 .left) (sym (c .before .before .before .before .starts .ensures) ∙ c .before .before .before .if2 .left) (sym (c .before .starts2 .ensures) ∙ not-true _ (c .if3 .taken))
 
--- src/form.rt:276:8
 is-refusal-requires : tie.Need-is-refusal-requires
-is-refusal-requires c κs = search needs
+unfolding decimalIn topText bottomText answerText
+is-refusal-requires c κs = starts-fits (now (c .before .before .before .before .before .before .before .before .before .before .args .text)) refusedHead 0 (sym (c .before .starts2 .ensures) ∙ not-false _ (c .if3 .left)) zero-le
 
--- src/form.rt:277:9
 returns-4 : tie.Need-returns-4
-returns-4 c = search needs
+unfolding decimalIn topText bottomText answerText
+returns-4 c =
+    let a = c .before .before .before .before .before .before .before .before .before .before .before .before .args in
+    answer-refused (a .rabin) (now (a .text)) (sym (c .before .before .before .before .before .before .before .before .before .alike .ensures) ∙ c .before .before .before .before .before .before .before .before .if1 .left) (sym (c .before .before .before .before .before .before .starts .ensures) ∙ c .before .before .before .before .before .if2 .left)
+    (sym (c .before .before .before .starts2 .ensures) ∙ not-false _ (c .before .before .if3 .left)) (sym (c .before .is-refusal .ensures) ∙ c .if4 .taken)
 
--- src/form.rt:261:1
 returns-5 : tie.Need-returns-5
-returns-5 c = search needs
+unfolding decimalIn topText bottomText answerText
+returns-5 c =
+    let a = c .before .before .before .before .before .before .before .before .before .before .before .before .args in
+    answer-not (a .rabin) (now (a .text)) (sym (c .before .before .before .before .before .before .before .before .before .alike .ensures) ∙ c .before .before .before .before .before .before .before .before .if1 .left) (sym (c .before .before .before .before .before .before .starts .ensures) ∙ c .before .before .before .before .before .if2 .left)
+    (sym (c .before .before .before .starts2 .ensures) ∙ not-false _ (c .before .before .if3 .left)) (sym (c .before .is-refusal .ensures) ∙ c .if4 .left)
 
 pub read-answer-spec : {M : Type 1} → statement M
 read-answer-spec =

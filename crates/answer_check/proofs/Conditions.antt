@@ -11,9 +11,10 @@ use lib.ListN.{getD}
 use Rattle.marks.specs.Mark.{has, Covers, firstMarks, width}
 use Rattle.marks.proofs.Cases.{same}
 use Rattle.marks.proofs.Laws.{has-first}
+use Rattle.table.specs.declared.Acceptance.{Acceptance}
 use Rattle.table.specs.declared.Acceptance.the-variants.{Buchi, Streett, Rabin}
 use Rattle.table.specs.Condition.{need, dealt, MeetsPair}
-use Rattle.table.specs.Refusal.{mostRabin, wrongCondition}
+use Rattle.table.specs.Refusal.{mostStreett, wrongCondition}
 use Rattle.table.proofs.Sound.{used-few, rabin-few}
 use Rattle.answer_check.specs.Fault.{Meets}
 
@@ -85,3 +86,14 @@ answers-none h = (λ e p. absurd (h p), λ g. refl)
 
 pub answers-so : {P Q : Type 0} (r : Bool) → P → (r ≡ true) ↔ Q → (r ≡ true) ↔ (P → Q)
 answers-so r p q = (λ e o. q .0 e, λ g. q .1 (g p))
+
+-- ---- by the kind that was matched
+
+pub by-kind : (needs : List ℕ) (M pair : ℕ) (r : Bool) (c d : Acceptance) → c ≡ d → (r ≡ true) ↔ Meets d needs M pair → (r ≡ true) ↔ Meets c needs M pair
+by-kind needs M pair r c d e m = subst (λ (k : Acceptance). (r ≡ true) ↔ Meets k needs M pair) (sym e) m
+
+pub still : (needs : List ℕ) (c d : Acceptance) → c ≡ d → wrongCondition c needs ≡ false → wrongCondition d needs ≡ false
+still needs c d e w = subst (λ (k : Acceptance). wrongCondition k needs ≡ false) e w
+
+pub streett-few : (p : ℕ) (needs : List ℕ) → wrongCondition (Streett p) needs ≡ false → p ≤ mostStreett
+streett-few p needs w = omega (arith, used-few (Streett p) needs w)

@@ -82,3 +82,16 @@ module _ (g : Named) (c : Acceptance) (needs : List ℕ) (pair : ℕ) where
           unmet = λ m. not-so r p t (subst (λ (M : ℕ). Meets c needs M pair) (sym (C .marks)) m);
           position = refl;
         }
+
+-- ---- a list that was walked from the start
+
+pub walked-from : (g : Named) (start : ℕ) (list from to marks : List ℕ) (r s : Walked) → WalkSays (listGiven list) start from to marks r → r ≡ s → Lies (g .table) from to marks
+    → g .table .start ≡ start → listGiven list ≡ some (g .prefix) → WalkedSays (g .table) (g .table .start) (g .prefix) s
+walked-from g start list from to marks r s W q L e l =
+    subst (WalkedSays (g .table) (g .table .start) (g .prefix)) q
+    (subst (λ (x : ℕ). WalkedSays (g .table) x (g .prefix) r) (sym e) (W (g .table) (g .prefix) L (omega (arith, L .proper .start-below)) l))
+
+-- a cycle that was walked from the knot
+pub walked-round : (g : Named) (knot : ℕ) (list from to marks : List ℕ) (r s : Walked) → WalkSays (listGiven list) knot from to marks r → r ≡ s → Lies (g .table) from to marks
+    → KnotSays g knot → listGiven list ≡ some (g .cycle) → WalkedSays (g .table) knot (g .cycle) s
+walked-round g knot list from to marks r s W q L K l = subst (WalkedSays (g .table) knot (g .cycle)) q (W (g .table) (g .cycle) L (K .below) l)

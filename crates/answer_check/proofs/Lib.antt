@@ -14,3 +14,5 @@ pub mod Conditions
 pub mod Lassos
 -- Reading: what an answer text is, from its values
 pub mod Reading
+-- Telling: from what the parts give to the whole promise
+pub mod Telling

@@ -31,6 +31,10 @@ none-of (some a) e = absurd (false≢true (sym e))
 
 -- ---- a run
 
+run-of : (rabin : Bool) (v : RunText) (pair : ℕ) (p q : List ℕ) → pairGiven rabin (v .pair) ≡ some pair → listGiven (v .prefix) ≡ some p → listGiven (v .cycle) ≡ some q
+    → runOf rabin v ≡ some (run pair p q)
+run-of rabin v pair p q e f g = rw (e, f, g)
+
 module _ (rabin : Bool) (text : List ℕ) (at : ℕ) (r : RunValues) (W : ValuesAt text at r) where
   pub run-missing : r .found ≡ false → runGiven rabin (drop at text) ≡ none
   run-missing f =
@@ -65,7 +69,7 @@ module _ (rabin : Bool) (text : List ℕ) (at : ℕ) (r : RunValues) (W : Values
             record {
               prefix = a .0;
               cycle = b .0;
-              says = run-is ∙ rw (p, a .1, b .1);
+              says = run-is ∙ run-of rabin _ pair (a .0) (b .0) p (a .1) (b .1);
               prefix-listed = a .1;
               cycle-listed = b .1;
               prefix-there = W .prefix f;

@@ -1,77 +1,82 @@
+-- `check_sound` meets its contract: the form decides, and a run is walked and judged. Assumes nothing.
+use mathlib.Core.Path.{subst}
+use denote.Ref.{now}
+use Rattle.answer_check.specs.inner.{FormOf}
+use Rattle.answer_check.proofs.Telling.{told-malformed, told-no-run, told-run, named}
 use native.Mathlib.Omega.{arith}
 use borrow.Author.Needs.{needs}
 use Rattle.answer_check.proofs.check_sound.Statement.{statement}
 use Rattle.answer_check.proofs.check_sound.Tie as tie
-use Rattle.answer_check.proofs.check_sound.Reads as reads
-use Rattle.answer_check.proofs.check_sound.Lts as lts
-use Rattle.answer_check.proofs.conclude.Reads as conclude-reads
-use Rattle.answer_check.proofs.form.read_answer.Reads as read-answer-reads
-use Rattle.answer_check.proofs.lasso.check_lasso.Reads as check-lasso-reads
-use Rattle.answer_text.proofs.is_rabin.Reads as is-rabin-reads
 
--- src/lib.rt:75:31
 is-rabin-requires : tie.Need-is-rabin-requires
 is-rabin-requires c κs = search needs
 
--- src/lib.rt:75:11
 read-answer-requires : tie.Need-read-answer-requires
 read-answer-requires c κs = search needs
 
--- src/lib.rt:76:28
 enum-told : tie.Need-enum-told
 enum-told c = search needs
 
--- src/lib.rt:80:24
 enum-told-2 : tie.Need-enum-told-2
 enum-told-2 c = search needs
 
--- src/lib.rt:85:13
 enum-known-pair : tie.Need-enum-known-pair
 enum-known-pair c = search needs
 
--- src/lib.rt:92:17
 sub-check-lasso : tie.Need-sub-check-lasso
-sub-check-lasso c = search needs
+sub-check-lasso c =
+    let R = subst (FormOf (c .before .before .before .before .is-rabin .result) (now (c .before .before .before .before .before .before .before .before .before .args .answer))) (c .before .pair .given .1) (c .before .before .before .read-answer .ensures) in
+    omega (arith, R .prefix-there .low)
 
--- src/lib.rt:92:17
 part-check-lasso-start : tie.Need-part-check-lasso-start
-part-check-lasso-start c = search needs
+part-check-lasso-start c =
+    let R = subst (FormOf (c .before .before .before .before .is-rabin .result) (now (c .before .before .before .before .before .before .before .before .before .args .answer))) (c .before .pair .given .1) (c .before .before .before .read-answer .ensures) in
+    R .prefix-there .low
 
--- src/lib.rt:92:17
 part-check-lasso-end : tie.Need-part-check-lasso-end
-part-check-lasso-end c = search needs
+part-check-lasso-end c =
+    let R = subst (FormOf (c .before .before .before .before .is-rabin .result) (now (c .before .before .before .before .before .before .before .before .before .args .answer))) (c .before .pair .given .1) (c .before .before .before .read-answer .ensures) in
+    R .prefix-there .high
 
--- src/lib.rt:93:17
 sub-check-lasso-2 : tie.Need-sub-check-lasso-2
-sub-check-lasso-2 c = search needs
+sub-check-lasso-2 c =
+    let R = subst (FormOf (c .before .before .before .before .before .is-rabin .result) (now (c .before .before .before .before .before .before .before .before .before .before .args .answer))) (c .before .before .pair .given .1) (c .before .before .before .before .read-answer .ensures) in
+    omega (arith, R .cycle-there .low)
 
--- src/lib.rt:93:17
 part-check-lasso-start-2 : tie.Need-part-check-lasso-start-2
-part-check-lasso-start-2 c = search needs
+part-check-lasso-start-2 c =
+    let R = subst (FormOf (c .before .before .before .before .before .is-rabin .result) (now (c .before .before .before .before .before .before .before .before .before .before .args .answer))) (c .before .before .pair .given .1) (c .before .before .before .before .read-answer .ensures) in
+    R .cycle-there .low
 
--- src/lib.rt:93:17
 part-check-lasso-end-2 : tie.Need-part-check-lasso-end-2
-part-check-lasso-end-2 c = search needs
+part-check-lasso-end-2 c =
+    let R = subst (FormOf (c .before .before .before .before .before .is-rabin .result) (now (c .before .before .before .before .before .before .before .before .before .before .args .answer))) (c .before .before .pair .given .1) (c .before .before .before .before .read-answer .ensures) in
+    R .cycle-there .high
 
--- src/lib.rt:91:17
 check-lasso-requires : tie.Need-check-lasso-requires
-check-lasso-requires c κs = search needs
+check-lasso-requires c κs = c .before .before .before .before .before .before .before .before .before .before .before .pre .0
 
--- src/lib.rt:99:13
 conclude-requires : tie.Need-conclude-requires
-conclude-requires c κs = search needs
+conclude-requires c κs = c .before .before .before .before .before .before .before .before .before .before .before .before .pre .1
 
--- src/lib.rt:62:1
 returns : tie.Need-returns
-returns c = search needs
+returns c =
+    let a = c .before .before .before .before .before .before .before .before .args in
+    λ t L s. told-malformed t (a .condition) (a .needs) (now (a .answer)) (c .before .before .before .is-rabin .result) (c .before .before .read-answer .result) (c .before .before .read-answer .ensures) (c .before .before .before .is-rabin .ensures) (c .enum-told .given .1)
 
--- src/lib.rt:62:1
 returns-2 : tie.Need-returns-2
-returns-2 c = search needs
+returns-2 c =
+    let a = c .before .before .before .before .before .before .before .before .args in
+    λ t L s. told-no-run t (a .condition) (a .needs) (now (a .answer)) (c .before .before .before .is-rabin .result) (c .before .before .read-answer .result) (c .before .before .read-answer .ensures) (c .before .before .before .is-rabin .ensures) (c .enum-told2 .given .1)
 
--- src/lib.rt:62:1
 returns-3 : tie.Need-returns-3
-returns-3 c = search needs
+returns-3 c =
+    let a = c .before .before .before .before .before .before .before .before .before .before .before .before .before .args in
+    let R = subst (FormOf (c .before .before .before .before .before .before .before .before .is-rabin .result) (now (c .before .before .before .before .before .before .before .before .before .before .before .before .before .args .answer))) (c .before .before .before .before .before .pair .given .1) (c .before .before .before .before .before .before .before .read-answer .ensures) in
+    λ t L s.
+    let g = named t (c .before .before .before .before .before .before .before .before .is-rabin .result) (now (a .answer)) _ _ _ _ _ R in
+    told-run t (a .condition) (a .needs) (now (a .answer)) (c .before .before .before .before .before .before .before .before .is-rabin .result) _ _ _ _ _ R (c .before .before .before .before .before .before .before .before .is-rabin .ensures) (c .conclude .result)
+    (c .conclude .ensures g (c .before .check-lasso .ensures g L s (R .prefix-listed) (R .cycle-listed)))
 
 pub check-sound-spec : {M : Type 1} → statement M
 check-sound-spec =

@@ -1,34 +1,34 @@
-use native.Mathlib.Omega.{arith}
+-- `conclude` meets its contract: a fault of the walks stays, and a closed lasso is judged by the condition. Assumes nothing.
+use mathlib.Core.Path.{subst}
+use Rattle.answer_check.specs.inner.{TurnedSays}
+use Rattle.answer_check.proofs.Lassos.{stays, meets-so, meets-not}
 use borrow.Author.Needs.{needs}
 use Rattle.answer_check.proofs.conclude.Statement.{statement}
 use Rattle.answer_check.proofs.conclude.Tie as tie
-use Rattle.answer_check.proofs.conclude.Reads as reads
-use Rattle.answer_check.proofs.conclude.Lts as lts
-use Rattle.answer_check.proofs.condition.meets.Reads as meets-reads
 
--- src/lib.rt:48:26
 enum-known-turned : tie.Need-enum-known-turned
 enum-known-turned c = search needs
 
--- src/lib.rt:49:26
 enum-known-turned-2 : tie.Need-enum-known-turned-2
 enum-known-turned-2 c = search needs
 
--- src/lib.rt:50:16
 meets-requires : tie.Need-meets-requires
-meets-requires c κs = search needs
+meets-requires c κs = c .before .before .before .pre
 
--- src/lib.rt:51:17
 returns : tie.Need-returns
-returns c = search needs
+returns c =
+    let a = c .before .before .before .before .before .args in
+    λ g S. meets-so g (a .condition) (a .needs) (a .pair) _ (subst (TurnedSays g) (c .before .before .before .turned2 .given .1) S) (c .before .meets .result) (c .before .meets .ensures) (c .if1 .taken)
 
--- src/lib.rt:43:1
 returns-2 : tie.Need-returns-2
-returns-2 c = search needs
+returns-2 c =
+    let a = c .before .before .before .args in
+    λ g S. stays g (a .condition) (a .needs) (a .pair) (c .before .turned .given .0 .0) (c .before .turned .given .0 .1 .0) (subst (TurnedSays g) (c .before .turned .given .1) S)
 
--- src/lib.rt:43:1
 returns-3 : tie.Need-returns-3
-returns-3 c = search needs
+returns-3 c =
+    let a = c .before .before .before .before .before .args in
+    λ g S. meets-not g (a .condition) (a .needs) (a .pair) _ (subst (TurnedSays g) (c .before .before .before .turned2 .given .1) S) (c .before .meets .result) (c .before .meets .ensures) (c .if1 .left)
 
 pub conclude-spec : {M : Type 1} → statement M
 conclude-spec =

@@ -1,35 +1,32 @@
-use native.Mathlib.Omega.{arith}
+-- `lasso::check_lasso` meets its contract: the prefix breaks, or it leads to the knot, from which the cycle is walked. Assumes nothing.
+use denote.Ref.{now}
+use Rattle.answer_check.proofs.Lassos.{walked-from, knot-says}
 use borrow.Author.Needs.{needs}
 use Rattle.answer_check.proofs.lasso.check_lasso.Statement.{statement}
 use Rattle.answer_check.proofs.lasso.check_lasso.Tie as tie
-use Rattle.answer_check.proofs.lasso.check_lasso.Reads as reads
-use Rattle.answer_check.proofs.lasso.check_lasso.Lts as lts
-use Rattle.answer_check.proofs.lasso.turn.Reads as turn-reads
-use Rattle.answer_check.proofs.walk.walk.Reads as walk-reads
 
--- src/lasso.rt:65:11
 walk-requires : tie.Need-walk-requires
-walk-requires c κs = search needs
+walk-requires c κs = c .before .before .before .before .before .pre
 
--- src/lasso.rt:66:26
 enum-known-position : tie.Need-enum-known-position
 enum-known-position c = search needs
 
--- src/lasso.rt:71:13
 enum-known-state : tie.Need-enum-known-state
 enum-known-state c = search needs
 
--- src/lasso.rt:74:14
 turn-requires : tie.Need-turn-requires
-turn-requires c κs = search needs
+turn-requires c κs = c .before .before .before .before .before .before .before .before .before .pre
 
--- src/lasso.rt:54:1
 returns : tie.Need-returns
-returns c = search needs
+returns c =
+    let a = c .before .before .before .before .before .before .before .before .before .args in
+    λ g L s p q. walked-from g (a .start) (now (a .prefix)) (now (a .from)) (now (a .to)) (now (a .marks)) (c .before .before .before .walk .result) _ (c .before .before .before .walk .ensures) (c .before .position .given .1) L s p
 
--- src/lasso.rt:54:1
 returns-2 : tie.Need-returns-2
-returns-2 c = search needs
+returns-2 c =
+    let a = c .before .before .before .before .before .before .before .before .before .before .args in
+    λ g L s p q. c .turn .ensures g L
+    (knot-says g _ _ _ (walked-from g (a .start) (now (a .prefix)) (now (a .from)) (now (a .to)) (now (a .marks)) (c .before .before .before .before .walk .result) _ (c .before .before .before .before .walk .ensures) (c .before .before .state .given .1) L s p)) q
 
 pub check-lasso-spec : {M : Type 1} → statement M
 check-lasso-spec =

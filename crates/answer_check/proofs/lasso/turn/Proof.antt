@@ -1,35 +1,33 @@
-use native.Mathlib.Omega.{arith}
+-- `lasso::turn` meets its contract: the cycle breaks, or what it is follows from where it arrives. Assumes nothing.
+use denote.Ref.{now}
+use Rattle.answer_check.proofs.Lassos.{walked-round, cycle-breaks}
 use borrow.Author.Needs.{needs}
 use Rattle.answer_check.proofs.lasso.turn.Statement.{statement}
 use Rattle.answer_check.proofs.lasso.turn.Tie as tie
-use Rattle.answer_check.proofs.lasso.turn.Reads as reads
-use Rattle.answer_check.proofs.lasso.turn.Lts as lts
-use Rattle.answer_check.proofs.lasso.closed.Reads as closed-reads
-use Rattle.answer_check.proofs.walk.walk.Reads as walk-reads
 
--- src/lasso.rt:40:11
 walk-requires : tie.Need-walk-requires
-walk-requires c κs = search needs
+walk-requires c κs = c .before .before .before .before .pre
 
--- src/lasso.rt:41:26
 enum-known-position : tie.Need-enum-known-position
 enum-known-position c = search needs
 
--- src/lasso.rt:46:13
 enum-known-state : tie.Need-enum-known-state
 enum-known-state c = search needs
 
--- src/lasso.rt:49:14
 closed-requires : tie.Need-closed-requires
 closed-requires c κs = search needs
 
--- src/lasso.rt:36:1
 returns : tie.Need-returns
-returns c = search needs
+returns c =
+    let a = c .before .before .before .before .before .before .before .before .args in
+    λ g L K e. cycle-breaks g (a .knot) _ K
+    (walked-round g (a .knot) (now (a .cycle)) (now (a .from)) (now (a .to)) (now (a .marks)) (c .before .before .before .walk .result) _ (c .before .before .before .walk .ensures) (c .before .position .given .1) L K e)
 
--- src/lasso.rt:36:1
 returns-2 : tie.Need-returns-2
-returns-2 c = search needs
+returns-2 c =
+    let a = c .before .before .before .before .before .before .before .before .before .args in
+    λ g L K e. c .closed .ensures g K
+    (walked-round g (a .knot) (now (a .cycle)) (now (a .from)) (now (a .to)) (now (a .marks)) (c .before .before .before .before .walk .result) _ (c .before .before .before .before .walk .ensures) (c .before .before .state .given .1) L K e)
 
 pub turn-spec : {M : Type 1} → statement M
 turn-spec =

@@ -1,31 +1,35 @@
-use native.Mathlib.Omega.{arith}
+-- `walk::walk` meets its contract: `-` is no edge. Assumes nothing.
+use mathlib.Core.Path.{sym, _∙_, subst}
+use mathlib.Core.List.{List}
+use mathlib.Core.Option.{Option}
+use Prim.Native.Nat.{ℕ}
+use denote.Ref.{now}
+use Rattle.answer_check.specs.inner.{WalkSays}
+use Rattle.answer_check.proofs.Forms.{list-none, list-steps}
+use Rattle.answer_check.proofs.Going.{no-edges}
 use borrow.Author.Needs.{needs}
 use Rattle.answer_check.proofs.walk.walk.Statement.{statement}
 use Rattle.answer_check.proofs.walk.walk.Tie as tie
-use Rattle.answer_check.proofs.walk.walk.Reads as reads
-use Rattle.answer_check.proofs.walk.walk.Lts as lts
-use Rattle.answer_check.proofs.walk.walk_edges.Reads as walk-edges-reads
-use Rattle.job_text.proofs.part.alike.Reads as alike-reads
 
--- src/walk.rt:146:20
 slice-aggregate-alike : tie.Need-slice-aggregate-alike
 slice-aggregate-alike c = search needs
 
--- src/walk.rt:146:8
 alike-requires : tie.Need-alike-requires
 alike-requires c κs = search needs
 
--- src/walk.rt:147:9
 returns : tie.Need-returns
-returns c = search needs
+returns c =
+    let a = c .before .before .before .before .before .before .before .args in
+    λ t es L b e. no-edges (a .begin) (now (a .from)) (now (a .to)) (now (a .marks)) es (list-none (now (a .list)) es (sym (c .before .alike .ensures) ∙ c .if1 .taken) e) t b
 
--- src/walk.rt:153:5
 walk-edges-requires : tie.Need-walk-edges-requires
-walk-edges-requires c κs = search needs
+walk-edges-requires c κs = c .before .before .before .before .before .before .before .pre
 
--- src/walk.rt:142:1
 returns-2 : tie.Need-returns-2
-returns-2 c = search needs
+returns-2 c =
+    let a = c .before .before .before .before .before .before .before .before .args in
+    subst (λ (o : Option (List ℕ)). WalkSays o (a .begin) (now (a .from)) (now (a .to)) (now (a .marks)) (c .walk-edges .result))
+    (sym (list-steps (now (a .list)) (sym (c .before .before .alike .ensures) ∙ c .before .if1 .left))) (c .walk-edges .ensures)
 
 pub walk-spec : {M : Type 1} → statement M
 walk-spec =

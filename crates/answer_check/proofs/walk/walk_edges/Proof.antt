@@ -5,6 +5,7 @@ use Prim.Native.Nat.{_+_, _-_, _≤_}
 use denote.Ref.{now}
 use lib.ListN.{length}
 use Rattle.job_text.specs.Given.{numberGiven}
+use Rattle.answer_check.specs.declared.walk.Walked.the-variants as walked
 use Rattle.answer_check.specs.inner.{GoSays}
 use Rattle.answer_check.proofs.Going.{Underway, set-out, never-wrong, breaks-here, goes-on, arrived}
 use native.Mathlib.Omega.{arith}
@@ -50,7 +51,7 @@ returns c =
     let l = c .before .before .before .before .before .before .loop in
     let found = c .before .before .before .before .find in
     never-wrong (now (a .list)) (a .begin) (now (a .from)) (now (a .to)) (now (a .marks)) (l .at) (l .position) (l .place) (l .inv .0) (c .before .before .before .before .before .loop-test .taken) (found .result) (found .ensures)
-    (sym (c .before .before .read-step .ensures) ∙ ap numberGiven (c .enum-told .given .1)) _
+    (sym (c .before .before .read-step .ensures) ∙ ap numberGiven (c .enum-told .given .1)) (walked.Broken (l .position))
 
 go-requires : tie.Need-go-requires Inv-loop μ-loop
 go-requires c κs = c .before .before .before .before .before .before .before .before .before .before .before .before .pre

@@ -16,3 +16,5 @@ pub mod Lassos
 pub mod Reading
 -- Telling: from what the parts give to the whole promise
 pub mod Telling
+-- Unique: two texts get one result, and which are accepted
+pub mod Unique

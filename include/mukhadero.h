@@ -2,8 +2,10 @@
  * mukhadero: does a table hold an accepted lasso? docs/RULES.md of the repository has the rules, complete.
  *
  * A table has states 0..n-1, a start state and edges 0..m-1; edge e leads from from[e] to to[e] and bears the marks whose bits are
- * set in marks[e]. A lasso is a prefix (a walk from the start, perhaps empty) and a cycle (a non-empty walk from the end of the
- * prefix back to it). The judge answers "run" with an accepted lasso, "empty" if there is none, or refuses with a number and a place.
+ * set in marks[e]. A state that no edge leaves is a stop state: it has one waiting edge, MUKHADERO_STOP, which leads to the state
+ * itself, bears no marks and stands in no table. A lasso is a prefix (a walk from the start, perhaps empty) and a cycle (a non-empty
+ * walk from the end of the prefix back to it). The judge answers "run" with an accepted lasso, "empty" if there is none, or refuses
+ * with a number and a place.
  *
  * What a caller must see to; no other input is undefined:
  * - Each pointer is good for its count of cells, of 32 bits and aligned as uint32_t is, or of bytes for a text. A count may be 0; its
@@ -50,6 +52,9 @@ enum {
     MUKHADERO_MOST_HOA_EDGES     = 512, /* tables of so many cells are never too short to be read into */
     MUKHADERO_MOST_HOA_BYTES     = 52205 /* an output of so many bytes is never too short to be written to */
 };
+
+/* In the room: the waiting edge of a stop state. The walk halts there for ever. */
+#define MUKHADERO_STOP 65535
 
 /* The field `verdict` of an answer. */
 enum {

@@ -43,11 +43,15 @@ int main(void) {
 
     /* a count of 0 with no pointer */
     a = mukhadero_judge_buchi(1, 0, NULL, 0, NULL, 0, NULL, 0, 0, room, 1, scratch, 72);
-    expect(a.verdict == MUKHADERO_VERDICT_EMPTY, "no edges");
+    expect(a.verdict == MUKHADERO_VERDICT_RUN && a.prefix_length == 0 && a.cycle_length == 1 && room[0] == MUKHADERO_STOP, "no edges: the start waits");
+    a = mukhadero_judge_buchi(1, 0, NULL, 0, NULL, 0, NULL, 0, 1, room, 2, scratch, 72);
+    expect(a.verdict == MUKHADERO_VERDICT_EMPTY, "a waiting edge bears no mark");
     a = mukhadero_judge_buchi(0, 0, NULL, 0, NULL, 0, NULL, 0, 0, NULL, 0, NULL, 0);
     expect(a.verdict == MUKHADERO_VERDICT_REFUSED && a.number == MUKHADERO_REFUSED_STATES, "no states");
-    t = mukhadero_one_mark(1, 0, NULL, 0, NULL, 0, NULL, 0, 0, NULL, 0, NULL, 0, NULL, 0);
+    t = mukhadero_one_mark(1, 0, NULL, 0, NULL, 0, NULL, 0, 1, NULL, 0, NULL, 0, NULL, 0);
     expect(t.number == MUKHADERO_ANSWERED && t.states == 1 && t.edges == 0, "no edges to translate");
+    t = mukhadero_one_mark(1, 0, NULL, 0, NULL, 0, NULL, 0, 0, out_from, 5, out_to, 5, out_marks, 5);
+    expect(t.number == MUKHADERO_ANSWERED && t.edges == 1 && out_from[0] == 0 && out_to[0] == 0 && out_marks[0] == 1, "the waiting edge written out");
 
     /* a text that is written is read back */
     w = mukhadero_write_hoa_rabin(STATES, 0, from, EDGES, to, EDGES, marks, EDGES, 1, needs, text, sizeof text);

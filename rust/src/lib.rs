@@ -67,6 +67,21 @@ pub fn version() -> u32 {
     ffi::version()
 }
 
+/// The waiting edge of a stop state, one that no edge of the table leaves: it leads to the state itself and bears no marks. It stands
+/// in no table; in a [`Lasso`] it says that the walk waits there for ever.
+///
+/// ```
+/// use mukhadero::{Condition, Judge, Table, Verdict, STOP};
+///
+/// // 0>1{}: state 1 is a stop state
+/// let table = Table { states: 2, start: 0, from: &[0], to: &[1], marks: &[0] };
+/// let mut judge = Judge::new();
+/// let Verdict::Run(lasso) = judge.judge(&table, &Condition::Buchi { marks: 0 })? else { unreachable!() };
+/// assert_eq!((lasso.prefix, lasso.cycle), (&[0][..], &[STOP][..]));
+/// # Ok::<(), mukhadero::Refusal>(())
+/// ```
+pub const STOP: u32 = 65535;
+
 /// Most states of a table.
 pub const MOST_STATES: u32 = 4096;
 /// Most edges of a table.

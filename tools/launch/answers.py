@@ -5,8 +5,9 @@ import re
 from manners import EMPTY, REFUSED, RUN
 
 STATUS = {b"empty": EMPTY, b"run": RUN, b"refused": REFUSED}
-NUMBERS = rb"(-|\d+(?:,\d+)*)"
-ANSWER = re.compile(rb"verdict=(run|empty|refused)\ncode=(\d+)\nplace=(\d+)\npair=(-|\d+)\nprefix=" + NUMBERS + rb"\ncycle=" + NUMBERS + rb"\n")
+STOP = b"stop"  # the waiting edge of a state that no edge leaves
+EDGES = rb"(-|(?:\d+|stop)(?:,(?:\d+|stop))*)"
+ANSWER = re.compile(rb"verdict=(run|empty|refused)\ncode=(\d+)\nplace=(\d+)\npair=(-|\d+)\nprefix=" + EDGES + rb"\ncycle=" + EDGES + rb"\n")
 
 
 def read_answer(output, where, refused):
@@ -22,7 +23,8 @@ def read_answer(output, where, refused):
         sentence = "empty: no endless run meets the condition"
     elif verdict == b"run":
         first = "" if prefix == b"-" else f"{counted(prefix)} first, then "
-        sentence = f"run: an endless run meets the condition: {first}{counted(cycle)} round and round{told(where, prefix, cycle)}"
+        last = "a halt for ever" if STOP in cycle.split(b",") else f"{counted(cycle)} round and round"
+        sentence = f"run: an endless run meets the condition: {first}{last}{told(where, prefix, cycle)}"
     else:
         sentence = "refused: " + (told(refused, code, place) or f"code {code}, place {place}")
     return STATUS[verdict], sentence
@@ -37,7 +39,8 @@ def told(words, *about):
 
 
 def numbers_of(listed):
-    return [] if listed == b"-" else [int(number) for number in listed.split(b",")]
+    """The numbers of the edges that stand in the text: of a waiting edge there is nothing to look at."""
+    return [] if listed == b"-" else [int(number) for number in listed.split(b",") if number != STOP]
 
 
 def counted(numbers):

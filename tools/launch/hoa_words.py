@@ -45,9 +45,10 @@ def where(text, prefix, cycle):
         places = hoa_reader.read_tokens(hoa_reader.tokens(text)).edge_places()
     except hoa_reader.Refused:
         return ""
-    parts = [lines_of(text, places, answers.numbers_of(part)) for part in (prefix, cycle) if part != b"-"]
-    one = len(answers.numbers_of(prefix) + answers.numbers_of(cycle)) == 1
-    return f" (line{'' if one else 's'} {'; then '.join(parts)} of the text)"
+    listed = [numbers for numbers in map(answers.numbers_of, (prefix, cycle)) if numbers]
+    parts = [lines_of(text, places, numbers) for numbers in listed]
+    one = sum(map(len, listed)) == 1
+    return f" (line{'' if one else 's'} {'; then '.join(parts)} of the text)" if listed else ""
 
 
 # ---- where a text is refused -------------------------------------------------------------------------------------------------------------

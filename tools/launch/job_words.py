@@ -16,7 +16,12 @@ COUNTS = {"buchi": "32 marks", "streett": "16 pairs", "rabin": "8 pairs"}
 def read_answer(text, output):
     """The exit status and the sentence; None if the output is no printed answer."""
     job = Job(text)
-    return answers.read_answer(output, lambda prefix, cycle: f" (edge 0 is line {job.first_edge} of the job)", lambda code, place: refused(job, code, place))
+    return answers.read_answer(output, lambda prefix, cycle: where(job, prefix, cycle), lambda code, place: refused(job, code, place))
+
+
+def where(job, prefix, cycle):
+    some = answers.numbers_of(prefix) + answers.numbers_of(cycle)
+    return f" (edge 0 is line {job.first_edge} of the job)" if some else ""
 
 
 class Job:

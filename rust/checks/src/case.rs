@@ -50,4 +50,20 @@ impl Case {
     pub fn edges(&self) -> usize {
         self.from.len()
     }
+
+    /// The stop states, in order: those that no edge leaves.
+    pub fn stop_states(&self) -> Vec<u32> {
+        (0..self.states).filter(|s| self.from.binary_search(s).is_err()).collect()
+    }
+
+    /// The same case with each stop state's waiting edge written out, behind the other edges: a loop without marks.
+    pub fn with_waiting(&self) -> Case {
+        let mut written = self.clone();
+        for s in self.stop_states() {
+            written.from.push(s);
+            written.to.push(s);
+            written.marks.push(0);
+        }
+        written
+    }
 }

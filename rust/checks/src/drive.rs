@@ -181,7 +181,8 @@ fn any_translation(case: &Case, random: &mut Random) -> (u32, [usize; 3]) {
         4 => (least + 1).min(32),
         _ => least,
     };
-    let edges = (case.from.len() * k.clamp(1, 32) as usize).min(40_000);
+    let waiting = if k == 0 && case.states <= 4096 { case.stop_states().len() } else { 0 };
+    let edges = (case.from.len() * k.clamp(1, 32) as usize + waiting).min(40_000);
     let mut outputs = [edges; 3].map(|length| length + random.pick(&[0, 0, 1, 9]));
     if random.chance(10) {
         outputs[random.below(3) as usize] = random.pick(&[0, edges.saturating_sub(1), edges / 2]);

@@ -8,7 +8,7 @@ use crate::oracle::{self, Expected};
 use crate::random::Random;
 use crate::refusal;
 use mukhadero::ffi::{self, Answer};
-use mukhadero::Condition;
+use mukhadero::{Condition, STOP};
 use std::fmt;
 
 /// Which promise was broken.
@@ -137,7 +137,7 @@ fn check_lasso(case: &Case, answer: &Answer, room: &[u32]) -> Result<(), Fault> 
     let turn = walk(case, case.start, prefix)?;
     let end = walk(case, turn, cycle)?;
     demand(end == turn, Promise::Lasso, || format!("the cycle leads from {turn} to {end}"))?;
-    let union = cycle.iter().fold(0, |union, &e| union | case.marks[e as usize]);
+    let union = cycle.iter().filter(|&&e| e != STOP).fold(0, |union, &e| union | case.marks[e as usize]);
     demand(acceptance::accepted(&case.condition, union), Promise::Lasso, || {
         format!("the cycle bears {union:08x}: not accepted")
     })?;
@@ -148,10 +148,15 @@ fn check_lasso(case: &Case, answer: &Answer, room: &[u32]) -> Result<(), Fault> 
     check_zero(room, prefix.len() + cycle.len(), Promise::Room)
 }
 
-/// Follows edges from a state, each leaving where the one before arrived; where the last one arrives comes back.
+/// Follows edges from a state, each leaving where the one before arrived; where the last one arrives comes back. At a stop state,
+/// and only there, a walk waits.
 fn walk(case: &Case, from: u32, edges: &[u32]) -> Result<u32, Fault> {
     let mut at = from;
     for (i, &e) in edges.iter().enumerate() {
+        if e == STOP {
+            demand(!case.from.contains(&at), Promise::Lasso, || format!("edges leave {at}, where the walk waits (step {i})"))?;
+            continue;
+        }
         demand((e as usize) < case.edges(), Promise::Lasso, || format!("there is no edge {e} (step {i})"))?;
         let leaves = case.from[e as usize];
         demand(leaves == at, Promise::Lasso, || format!("edge {e} leaves {leaves}, the walk stands at {at} (step {i})"))?;

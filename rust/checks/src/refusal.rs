@@ -63,7 +63,8 @@ pub fn of_judge(case: &Case) -> Option<(u32, u32)> {
 pub fn of_translation(case: &Case, k: u32, outputs: [usize; 3]) -> Option<(u32, u32)> {
     of_table(case, &Condition::Buchi { marks: k }).or_else(|| {
         let levels = if k == 0 { 1 } else { k as u64 };
-        let edges = case.edges() as u64 * levels;
+        let waiting = if k == 0 { case.stop_states().len() as u64 } else { 0 };
+        let edges = case.edges() as u64 * levels + waiting;
         if case.states as u64 * levels > 4096 || edges > 32768 {
             Some((10, 0))
         } else if outputs.iter().any(|&length| (length as u64) < edges) {

@@ -147,7 +147,9 @@ fn one_wrong_lasso_edge() {
             return false;
         }
         let at = case.from.len() % cells.len();
-        let leaves = case.from[cells[at] as usize];
+        let Some(&leaves) = case.from.get(cells[at] as usize) else {
+            return false;
+        };
         match case.from.iter().position(|&from| from != leaves) {
             Some(e) => cells[at] = e as u32,
             None => return false,

@@ -6,9 +6,11 @@ use checks::case::{Case, Edge};
 use checks::families;
 use checks::harness;
 use checks::judges::{Archive, Judge, Plain};
+use checks::lent::JudgeLoan;
 use checks::oracle::{self, Expected};
 use checks::random::Random;
 use mukhadero::Condition::{self, Buchi, Rabin, Streett};
+use mukhadero::STOP;
 
 const RUN: Expected = Expected::Run { pair: 0 };
 const EMPTY: Expected = Expected::Empty;
@@ -57,7 +59,7 @@ fn the_fourteen_cases() {
         (case("0>0{0}", Streett { pairs: 1 }), EMPTY),
         (case("0>0{}", Streett { pairs: 1 }), RUN),
         (case("0>0{}, 0>1{0}, 1>0{}", Streett { pairs: 1 }), RUN),
-        (Case::new("two states, no edges", 2, 0, vec![], Streett { pairs: 0 }), EMPTY),
+        (Case::new("two states, no edges", 2, 0, vec![], Streett { pairs: 0 }), RUN),
         (case("0>0{}", Buchi { marks: 0 }), RUN),
         (case("0>0{}", rabin(&[])), EMPTY),
         (case("1>1{0}", Buchi { marks: 1 }), EMPTY),
@@ -85,10 +87,11 @@ fn bare(states: u32, start: u32, condition: Condition) -> Case {
 
 #[test]
 fn edges_of_the_limits() {
-    check(&bare(4096, 0, Buchi { marks: 0 }), EMPTY);
+    check(&bare(4096, 0, Buchi { marks: 0 }), RUN);
+    check(&bare(4096, 4095, Buchi { marks: 1 }), EMPTY);
     check(&bare(4097, 0, Buchi { marks: 0 }), refused(1, 0));
     check(&bare(0, 0, Buchi { marks: 0 }), refused(1, 0));
-    check(&bare(7, 6, Buchi { marks: 0 }), EMPTY);
+    check(&bare(7, 6, Buchi { marks: 0 }), RUN);
     check(&bare(7, 7, Buchi { marks: 0 }), refused(3, 0));
     let mut loop_one = case("0>0{0}", Buchi { marks: 1 });
     assert_eq!(loop_one.room, 2);
@@ -101,7 +104,7 @@ fn edges_of_the_limits() {
     check(&case("0>0{}, 0>0{2}", Buchi { marks: 2 }), refused(7, 1));
     check(&bare(1, 0, Buchi { marks: 32 }), EMPTY);
     check(&bare(1, 0, Buchi { marks: 33 }), refused(4, 0));
-    check(&bare(1, 0, Streett { pairs: 16 }), EMPTY);
+    check(&bare(1, 0, Streett { pairs: 16 }), RUN);
     check(&bare(1, 0, Streett { pairs: 17 }), refused(4, 0));
     check(&bare(1, 0, rabin(&[3; 8])), EMPTY);
     check(&bare(1, 0, rabin(&[31])), EMPTY);
@@ -132,6 +135,55 @@ fn edges_of_the_translation() {
     assert_eq!(number(&Case::new("all marks", 3, 2, vec![(0, 2, u32::MAX), (2, 0, 1 << 31)], Buchi { marks: 0 }), 32, 64), 0);
 }
 
+/// A stop state waits for ever, on an edge without marks; a state that only lost its edges does not.
+#[test]
+fn stop_states() {
+    let room = |case: &Case| {
+        let mut loan = JudgeLoan::new(case, &mut Random::new(5));
+        let answer = Archive.judge(case, &mut loan);
+        loan.room.part()[..(answer.prefix_length + answer.cycle_length) as usize].to_vec()
+    };
+    for (case, expected, lasso) in [
+        (bare(2, 0, Streett { pairs: 0 }), RUN, vec![STOP]),
+        (bare(1, 0, rabin(&[])), EMPTY, vec![]),
+        (bare(1, 0, rabin(&[1])), EMPTY, vec![]),
+        (bare(1, 0, rabin(&[1, 0])), Expected::Run { pair: 1 }, vec![STOP]),
+        (case("0>1{0}", Buchi { marks: 1 }), EMPTY, vec![]),
+        (case("0>1{0}", Streett { pairs: 1 }), RUN, vec![0, STOP]),
+        (case("0>1{0}", rabin(&[0])), RUN, vec![0, STOP]),
+        // the loop meets pair 1, the stop state pair 0
+        (case("0>0{0}, 0>1{0}", rabin(&[0, 0])), RUN, vec![1, STOP]),
+        (case("0>0{0}", rabin(&[0])), EMPTY, vec![]),
+        (case("0>0{0}", Streett { pairs: 1 }), EMPTY, vec![]),
+        // state 1 cannot be reached
+        (Case::new("a stop state out of reach", 2, 0, vec![(0, 0, 1)], Streett { pairs: 1 }), EMPTY, vec![]),
+    ] {
+        assert_eq!(oracle::by_marks_collected(&case), expected, "{case:?}");
+        assert_eq!(oracle::by_reachability(&case), expected, "{case:?}");
+        check(&case, expected);
+        assert_eq!(room(&case), lasso, "{case:?}");
+    }
+}
+
+#[test]
+fn stop_states_translated() {
+    let random = &mut Random::new(5);
+    let mut number =
+        |case: &Case, k: u32, output: usize| harness::check_one_mark(&Archive, case, k, [output; 3], random).unwrap();
+    let four = Case::new("four states", 4, 0, vec![(0, 1, 0), (2, 2, 0)], Buchi { marks: 0 });
+    assert_eq!(oracle::one_mark(&four, 0), [(0, 1, 1), (1, 1, 1), (2, 2, 1), (3, 3, 1)]);
+    assert_eq!(number(&four, 0, 4), 0);
+    assert_eq!(number(&four, 0, 3), 11);
+    assert_eq!(number(&four, 1, 2), 0);
+    let loops = |edges: usize| Case::new("loops and a stop state", 2, 0, vec![(0, 0, 0); edges], Buchi { marks: 0 });
+    assert_eq!(number(&loops(32767), 0, 32768), 0);
+    assert_eq!(number(&loops(32767), 0, 32767), 11);
+    assert_eq!(number(&loops(32768), 0, 32769), 10);
+    assert_eq!(number(&loops(32768), 1, 32768), 0);
+    assert_eq!(number(&bare(4096, 0, Buchi { marks: 0 }), 0, 4096), 0);
+    assert_eq!(number(&bare(4096, 0, Buchi { marks: 0 }), 1, 0), 0);
+}
+
 #[test]
 fn large_tables() {
     let random = &mut Random::new(5);
@@ -154,7 +206,9 @@ fn large_tables() {
     check(&families::small_parts(4096, 32768, 5, true, random), RUN);
     check(&families::small_parts(4096, 32768, 5, false, random), EMPTY);
     check(&families::unreachable_accepted(4096, 32768, 3, random), EMPTY);
-    check(&families::lone_states(4096, 32768, Buchi { marks: 0 }, random), EMPTY);
+    let run = check(&families::lone_states(4096, 4096, Buchi { marks: 0 }, random), RUN);
+    assert_eq!(run.cycle_length, 1);
+    check(&families::lone_states(4096, 32768, Buchi { marks: 1 }, random), EMPTY);
 }
 
 /// The deep family is as deep as it says: given only the first i rounds of erasing, something bad is still left.

@@ -19,6 +19,9 @@ pub use refusal::{room_needed, scratch_needed};
 
 use work::Work;
 
+/// The waiting edge of a stop state, one that no edge leaves: it leads to itself, bears no marks and stands in no table.
+pub const WAITING: u32 = 65535;
+
 /// The three kinds of condition (docs/RULES.md, "Conditions"), each with its number; Rabin's needs stand beside it.
 #[derive(Clone, Copy, Debug)]
 pub enum Condition {

@@ -10,14 +10,15 @@ pub enum Translated {
     Refused { number: u32, place: u32 },
 }
 
-/// Writes the translated edges; each output has zeros behind them.
+/// Writes the translated edges, with k = 0 a loop at each stop state too; each output has zeros behind them.
 pub fn one_mark(table: &Table, k: u32, out_from: &mut [u32], out_to: &mut [u32], out_marks: &mut [u32]) -> Translated {
     if let Some((number, place)) = refusal::of_table(table, &Condition::Buchi(k)) {
         return Translated::Refused { number, place };
     }
     let levels = k.max(1);
     let m = table.from.len();
-    let edges = m * levels as usize;
+    let waiting = if k == 0 { stop_states(table) } else { 0 };
+    let edges = m * levels as usize + waiting;
     let states = table.states * levels;
     if states > MOST_STATES || edges > MOST_EDGES {
         return Translated::Refused { number: 10, place: 0 };
@@ -27,8 +28,7 @@ pub fn one_mark(table: &Table, k: u32, out_from: &mut [u32], out_to: &mut [u32],
     }
     let mut at = 0;
     let mut row = 0;
-    while row < m {
-        let s = table.from[row];
+    for s in 0..table.states {
         let row_end = row + table.from[row..].iter().take_while(|&&from| from == s).count();
         for level in 0..levels {
             for e in row..row_end {
@@ -41,10 +41,21 @@ pub fn one_mark(table: &Table, k: u32, out_from: &mut [u32], out_to: &mut [u32],
                 at += 1;
             }
         }
+        if k == 0 && row == row_end {
+            // a stop state's waiting edge, written out
+            (out_from[at], out_to[at], out_marks[at]) = (s, s, 1);
+            at += 1;
+        }
         row = row_end;
     }
     for out in [out_from, out_to, out_marks] {
         out[edges..].fill(0);
     }
     Translated::Made { states, edges: edges as u32, start: table.start * levels }
+}
+
+/// How many states no edge leaves.
+fn stop_states(table: &Table) -> usize {
+    let rows = table.from.len().min(1) + table.from.windows(2).filter(|pair| pair[0] != pair[1]).count();
+    table.states as usize - rows
 }

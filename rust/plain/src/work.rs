@@ -70,9 +70,9 @@ fn find_rows(from: &[u32], row: &mut [u32]) {
 /// A stack of regions to be divided: the start state alone, then parts to be divided again. A region is its states, then a set of
 /// marks, then the number of its states.
 ///
-/// The 4m + 63 words behind the columns hold it: a part that is kept has an inner edge, and no more states than inner edges, so parts
-/// without a state in common take at most 3m; the region at hand, under the parts that are found in it, takes at most m more; and the
-/// start state takes 3.
+/// The 4m + 63 words behind the columns hold it: a part that is kept has an inner edge, and no more states than inner edges, or is a
+/// stop state with an edge into it, or the start; so parts without a state in common take at most 3m + 3; the region at hand, under
+/// the parts that are found in it, takes at most m more; and the start state takes 3.
 pub struct Kept<'s> {
     words: &'s mut [u32],
     end: usize,

@@ -62,7 +62,7 @@ value-back word xs c e =
 over-none : {A : Type 0} (o : Option A) → over [] o ≡ o
 over-none o = refl
 
-over-back : {A : Type 0} (rest : List ℕ) (o : Option A) (a : A) → over rest o ≡ some a → (rest ≡ []) × (o ≡ some a)
+pub over-back : {A : Type 0} (rest : List ℕ) (o : Option A) (a : A) → over rest o ≡ some a → (rest ≡ []) × (o ≡ some a)
 over-back [] o a e = (refl, e)
 over-back (x ∷ rest) o a e =
     let z : eqb (length (x ∷ rest)) 0 ≡ false = ne-eqb (length (x ∷ rest)) 0 (λ (q : length (x ∷ rest) ≡ 0). omega arith) in

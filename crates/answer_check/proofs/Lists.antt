@@ -184,7 +184,7 @@ read-steps (f ∷ fs) es r =
     let s = stepped f fs es r in
     let here = read-step f (s .edge) (s .read) in
     let there = read-steps fs (s .others) (s .rest) in
-    (rw (s .is, here .0, there .0), rw (s .is) (within-more (s .edge) (s .others) (here .1) (there .1)))
+    (ap {B = List (List ℕ)} (λ g. g ∷ fs) (here .0) ∙ ap {B = List (List ℕ)} (λ gs. stepText (s .edge) ∷ gs) (there .0) ∙ ap (map stepText) (sym (s .is)), rw (s .is) (within-more (s .edge) (s .others) (here .1) (there .1)))
 
 no-dash : (e : ℕ) (es : List ℕ) → same (stepText e ++ furtherText es) dash ≡ false
 no-dash e es =

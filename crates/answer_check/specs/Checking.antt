@@ -5,13 +5,14 @@ use Prim.Native.Nat.{ℕ}
 use Rattle.table.specs.declared.Acceptance.{Acceptance}
 use Rattle.table.specs.declared.Finding.{Finding}
 use Rattle.table.specs.declared.Finding.the-variants.{Sound, Refused}
-use Rattle.table.specs.Table.{Table}
+use Rattle.table.specs.Table.{Table, marksOf}
+use Rattle.table.specs.Condition.{Accepted}
 use Rattle.job_text.specs.Job.{Job, Outcome, job, fault, readJob}
 use Rattle.job_text.specs.Asked.{jobTable, firstCause}
 use Rattle.answer_check.specs.declared.Checked.{Checked}
 use Rattle.answer_check.specs.declared.Checked.the-variants as checked
 use Rattle.answer_check.specs.Form.{run, Says, Malformed, NoRun}
-use Rattle.answer_check.specs.Fault.{Judged}
+use Rattle.answer_check.specs.Fault.{Meets, Judged}
 
 -- the text names a run, and this is what becomes of it
 pub record RunJudged (t : Table) (c : Acceptance) (needs text : List ℕ) (r : Checked) : Type 0 where
@@ -39,3 +40,16 @@ ByJob (job j) text r = ByCause (firstCause (job j)) (jobTable j) (j .condition) 
 -- the whole promise, for every job text and every answer text
 abbrev pub Checks : List ℕ → List ℕ → Checked → Type 0
 Checks text answer r = ByJob (readJob text) answer r
+
+-- the answer text names an accepted lasso of the job's table, for Rabin with the named pair met: with these it is accepted, and with no others
+-- (`Unique.accepted-exactly`, in proofs/)
+pub record NamesAccepted (text answer : List ℕ) : Type 0 where
+  pub asked : Job
+  pub read : readJob text ≡ job asked
+  pub sound : firstCause (job asked) ≡ Sound
+  pub pair : ℕ
+  pub prefix : List ℕ
+  pub cycle : List ℕ
+  pub says : Says (asked .condition) answer (run pair prefix cycle)
+  pub accepted : Accepted (jobTable asked) (asked .condition) (asked .needs) prefix cycle
+  pub met : Meets (asked .condition) (asked .needs) (marksOf (jobTable asked) cycle) pair

@@ -1,9 +1,8 @@
 // Whether the marks on a cycle meet a condition, for Rabin with the pair that is named. Relies on `marks`.
 ghost use mathlib.Core.Path.{_≡_};
 ghost use mathlib.Core.Bool.{true, false};
-ghost use mathlib.Core.List.{[]};
 ghost use mathlib.Core.Logic.{_↔_};
-ghost use Prim.Native.Nat.{ℕ, _+_, _≤_, _<_};
+ghost use Prim.Native.Nat.{ℕ, _+_, _*_, _≤_, _<_};
 ghost use Rattle.marks.specs.Mark.{has, width};
 ghost use Rattle.table.specs.declared.Acceptance.the-variants as acceptance;
 ghost use Rattle.table.specs.Condition.{dealt};
@@ -14,14 +13,25 @@ use marks::first_marks;
 use marks::has_mark;
 use table::Acceptance;
 
-// Streett: each pair whose left mark is there has its right mark there.
+// Streett, one pair: if its left mark is there, so is its right mark.
+fn answers(union: u32, i: u32) -> bool
+    requires { ⌜ i < mostStreett ⌝ }
+    ensures { λ r. ⌜ (r ≡ true) ↔ (has (2 * i) union → has (2 * i + 1) union) ⌝ }
+{
+    if !has_mark(union, 2 * i) {
+        return true;
+    }
+    has_mark(union, 2 * i + 1)
+}
+
+// Streett: each pair.
 fn meets_streett(union: u32, p: u32) -> bool
     requires { ⌜ p ≤ mostStreett ⌝ }
-    ensures { λ r. ⌜ (r ≡ true) ↔ Meets (acceptance.Streett p) [] union 0 ⌝ }
+    ensures { λ r. ⌜ (r ≡ true) ↔ ((i : ℕ) → i < p → has (2 * i) union → has (2 * i + 1) union) ⌝ }
 {
     let mut i: u32 = 0;
     while i < p {
-        if has_mark(union, 2 * i) && !has_mark(union, 2 * i + 1) {
+        if !answers(union, i) {
             return false;
         }
         i += 1;

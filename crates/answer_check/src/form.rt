@@ -268,7 +268,7 @@ pub(crate) fn read_answer(text: &[u8], rabin: bool) -> Form
         return Form::NoRun;
     }
     if starts(text, 0, b"verdict=run\ncode=0\nplace=0\npair=") {
-        return read_run(text, 33, rabin);
+        return read_run(text, 32, rabin);
     }
     if !starts(text, 0, b"verdict=refused\ncode=") {
         return Form::Malformed;

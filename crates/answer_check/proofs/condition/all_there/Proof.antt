@@ -1,48 +1,49 @@
-use borrow.Author.Needs.{needs}
+-- `condition::all_there` meets its contract: the marks looked at are there. The measure is the marks left. Assumes nothing.
+use Prim.Native.Nat.{ℕ, _+_, _-_}
+use borrow.Author.Tests.{not-true, not-false}
+use Rattle.marks.specs.Mark.{has}
+use Rattle.answer_check.proofs.Conditions.{Each, each-more, each-all, each-not, not-so}
 use native.Mathlib.Omega.{arith}
+use borrow.Author.Needs.{needs}
 use Rattle.answer_check.proofs.condition.all_there.Statement.{statement}
 use Rattle.answer_check.proofs.condition.all_there.Tie as tie
-use Rattle.answer_check.proofs.condition.all_there.Reads as reads
-use Rattle.answer_check.proofs.condition.all_there.Lts as lts
-use Rattle.marks.proofs.has_mark.Reads as has-mark-reads
 
 abbrev Inv-loop : tie.InvT-loop
-Inv-loop union first count j₀ j = ?
+Inv-loop union first count j₀ j = Each (λ (k : ℕ). has (first + k) union) j
 
 abbrev μ-loop : tie.MeasureT-loop
-μ-loop union first count j₀ j = ?
+μ-loop union first count j₀ j = count - j
 
--- src/condition.rt:53:5
 loop-holds : tie.Need-loop-holds Inv-loop μ-loop
-loop-holds c = search needs
+loop-holds c = λ j l. absurd (omega arith)
 
--- src/condition.rt:54:29
 add-has-mark : tie.Need-add-has-mark Inv-loop μ-loop
 add-has-mark c = search needs
 
--- src/condition.rt:54:13
 has-mark-requires : tie.Need-has-mark-requires Inv-loop μ-loop
 has-mark-requires c κs = search needs
 
--- src/condition.rt:55:13
 returns : tie.Need-returns Inv-loop μ-loop
-returns c = search needs
+returns c =
+    let a = c .before .before .before .before .args in
+    each-not (λ j. has (a .first + j) (a .union)) (c .before .before .before .loop .j) (a .count) (c .before .before .loop-test .taken)
+    (not-so _ (c .before .has-mark .ensures) (not-true _ (c .if1 .taken)))
 
--- src/condition.rt:57:9
 add-j : tie.Need-add-j Inv-loop μ-loop
 add-j c = search needs
 
--- src/condition.rt:53:5
 loop-less : tie.Need-loop-less Inv-loop μ-loop
 loop-less c = search needs
 
--- src/condition.rt:53:5
 loop-again : tie.Need-loop-again Inv-loop μ-loop
-loop-again c = search needs
+loop-again c =
+    let a = c .before .before .before .before .args in
+    each-more (λ j. has (a .first + j) (a .union)) (c .before .before .before .loop .j) (c .before .before .before .loop .inv) (c .before .has-mark .ensures .0 (not-false _ (c .if1 .left)))
 
--- src/condition.rt:48:1
 returns-2 : tie.Need-returns-2 Inv-loop μ-loop
-returns-2 c = search needs
+returns-2 c =
+    let a = c .before .before .args in
+    each-all (λ j. has (a .first + j) (a .union)) (c .before .loop .j) (a .count) (c .loop-test .left) (c .before .loop .inv)
 
 pub all-there-spec : {M : Type 1} → statement M
 all-there-spec =

@@ -1,60 +1,45 @@
-use borrow.Author.Needs.{needs}
+-- `condition::meets_streett` meets its contract: the pairs looked at are answered. The measure is the pairs left. Assumes nothing.
+use Prim.Native.Nat.{ℕ, _+_, _-_, _*_}
+use borrow.Author.Tests.{not-true, not-false}
+use Rattle.marks.specs.Mark.{has}
+use Rattle.answer_check.proofs.Conditions.{Each, each-more, each-all, each-not, not-so}
 use native.Mathlib.Omega.{arith}
+use borrow.Author.Needs.{needs}
 use Rattle.answer_check.proofs.condition.meets_streett.Statement.{statement}
 use Rattle.answer_check.proofs.condition.meets_streett.Tie as tie
-use Rattle.answer_check.proofs.condition.meets_streett.Reads as reads
-use Rattle.answer_check.proofs.condition.meets_streett.Lts as lts
-use Rattle.marks.proofs.has_mark.Reads as has-mark-reads
 
 abbrev Inv-loop : tie.InvT-loop
-Inv-loop union p i₀ i = ?
+Inv-loop union p i₀ i = Each (λ (k : ℕ). has (2 * k) union → has (2 * k + 1) union) i
 
 abbrev μ-loop : tie.MeasureT-loop
-μ-loop union p i₀ i = ?
+μ-loop union p i₀ i = p - i
 
--- src/condition.rt:23:5
 loop-holds : tie.Need-loop-holds Inv-loop μ-loop
-loop-holds c = search needs
+loop-holds c = λ j l. absurd (omega arith)
 
--- src/condition.rt:24:28
-mul-has-mark : tie.Need-mul-has-mark Inv-loop μ-loop
-mul-has-mark c = search needs
+answers-requires : tie.Need-answers-requires Inv-loop μ-loop
+answers-requires c κs = search needs
 
--- src/condition.rt:24:12
-has-mark-requires : tie.Need-has-mark-requires Inv-loop μ-loop
-has-mark-requires c κs = search needs
-
--- src/condition.rt:24:55
-mul-has-mark-2 : tie.Need-mul-has-mark-2 Inv-loop μ-loop
-mul-has-mark-2 c = search needs
-
--- src/condition.rt:24:55
-add-has-mark : tie.Need-add-has-mark Inv-loop μ-loop
-add-has-mark c = search needs
-
--- src/condition.rt:24:39
-has-mark-requires-2 : tie.Need-has-mark-requires-2 Inv-loop μ-loop
-has-mark-requires-2 c κs = search needs
-
--- src/condition.rt:25:13
 returns : tie.Need-returns Inv-loop μ-loop
-returns c = search needs
+returns c =
+    let M = c .before .before .before .before .args .union in
+    each-not (λ j. has (2 * j) M → has (2 * j + 1) M) (c .before .before .before .loop .i) (c .before .before .before .before .args .p) (c .before .before .loop-test .taken) (not-so _ (c .before .answers .ensures) (not-true _ (c .if1 .taken)))
 
--- src/condition.rt:27:9
 add-i : tie.Need-add-i Inv-loop μ-loop
 add-i c = search needs
 
--- src/condition.rt:23:5
 loop-less : tie.Need-loop-less Inv-loop μ-loop
 loop-less c = search needs
 
--- src/condition.rt:23:5
 loop-again : tie.Need-loop-again Inv-loop μ-loop
-loop-again c = search needs
+loop-again c =
+    let M = c .before .before .before .before .args .union in
+    each-more (λ j. has (2 * j) M → has (2 * j + 1) M) (c .before .before .before .loop .i) (c .before .before .before .loop .inv) (c .before .answers .ensures .0 (not-false _ (c .if1 .left)))
 
--- src/condition.rt:18:1
 returns-2 : tie.Need-returns-2 Inv-loop μ-loop
-returns-2 c = search needs
+returns-2 c =
+    let M = c .before .before .args .union in
+    each-all (λ j. has (2 * j) M → has (2 * j + 1) M) (c .before .loop .i) (c .before .before .args .p) (c .loop-test .left) (c .before .loop .inv)
 
 pub meets-streett-spec : {M : Type 1} → statement M
 meets-streett-spec =
@@ -63,11 +48,7 @@ meets-streett-spec =
     Inv-loop
     μ-loop
     loop-holds
-    mul-has-mark
-    has-mark-requires
-    mul-has-mark-2
-    add-has-mark
-    has-mark-requires-2
+    answers-requires
     returns
     add-i
     loop-less

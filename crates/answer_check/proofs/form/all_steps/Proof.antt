@@ -1,61 +1,59 @@
-use borrow.Author.Needs.{needs}
+-- `form::all_steps` meets its contract: the fields from `at` on decide (`Decides`). The measure is what is left of the bytes. Assumes nothing.
+use mathlib.Core.Path.{sym, _∙_}
+use Prim.Native.Nat.{_+_, _-_}
+use borrow.Author.Tests.{not-true, not-false}
+use denote.Ref.{now}
+use lib.ListN.{length}
+use Rattle.answer_check.proofs.Forms.{Decides, decides-all, decides-next, decides-no, decides-yes}
 use native.Mathlib.Omega.{arith}
+use borrow.Author.Needs.{needs}
 use Rattle.answer_check.proofs.form.all_steps.Statement.{statement}
 use Rattle.answer_check.proofs.form.all_steps.Tie as tie
-use Rattle.answer_check.proofs.form.all_steps.Reads as reads
-use Rattle.answer_check.proofs.form.all_steps.Lts as lts
-use Rattle.answer_check.proofs.form.is_step.Reads as is-step-reads
-use Rattle.job_text.proofs.part.find.Reads as find-reads
 
 abbrev Inv-loop : tie.InvT-loop
-Inv-loop bytes at₀ at = ?
+Inv-loop bytes at₀ at = Decides bytes at
 
 abbrev μ-loop : tie.MeasureT-loop
-μ-loop bytes at₀ at = ?
+μ-loop bytes at₀ at = length bytes + 1 - at
 
--- src/form.rt:126:5
 loop-holds : tie.Need-loop-holds Inv-loop μ-loop
-loop-holds c = search needs
+loop-holds c = decides-all (now (c .before .args .bytes))
 
--- src/form.rt:127:13
 find-requires : tie.Need-find-requires Inv-loop μ-loop
 find-requires c κs = search needs
 
--- src/form.rt:128:21
 sub-is-step : tie.Need-sub-is-step Inv-loop μ-loop
 sub-is-step c = search needs
 
--- src/form.rt:128:21
 part-is-step-start : tie.Need-part-is-step-start Inv-loop μ-loop
 part-is-step-start c = search needs
 
--- src/form.rt:128:21
 part-is-step-end : tie.Need-part-is-step-end Inv-loop μ-loop
-part-is-step-end c = search needs
+part-is-step-end c = c .find .ensures .high (c .before .loop-test .taken)
 
--- src/form.rt:128:13
 is-step-requires : tie.Need-is-step-requires Inv-loop μ-loop
 is-step-requires c κs = search needs
 
--- src/form.rt:129:13
 returns : tie.Need-returns Inv-loop μ-loop
-returns c = search needs
+returns c =
+    let found = c .before .before .before .find in
+    sym (decides-no (now (c .before .before .before .before .before .before .before .args .bytes)) (c .before .before .before .before .before .loop .at) (found .result) (c .before .before .before .before .before .loop .inv) (c .before .before .before .before .loop-test .taken) (found .ensures)
+    (sym (c .before .is-step .ensures) ∙ not-true _ (c .if1 .taken)))
 
--- src/form.rt:131:14
 add-at : tie.Need-add-at Inv-loop μ-loop
-add-at c = search needs
+add-at c = omega (arith, c .before .before .before .find .ensures .high (c .before .before .before .before .loop-test .taken))
 
--- src/form.rt:126:5
 loop-less : tie.Need-loop-less Inv-loop μ-loop
-loop-less c = search needs
+loop-less c = omega (arith, c .before .before .before .find .ensures .low, c .before .before .before .find .ensures .high (c .before .before .before .before .loop-test .taken), c .before .before .before .before .loop-test .taken)
 
--- src/form.rt:126:5
 loop-again : tie.Need-loop-again Inv-loop μ-loop
-loop-again c = search needs
+loop-again c =
+    let found = c .before .before .before .find in
+    decides-next (now (c .before .before .before .before .before .before .before .args .bytes)) (c .before .before .before .before .before .loop .at) (found .result) (c .before .before .before .before .before .loop .inv) (c .before .before .before .before .loop-test .taken) (found .ensures)
+    (sym (c .before .is-step .ensures) ∙ not-false _ (c .if1 .left))
 
--- src/form.rt:122:1
 returns-2 : tie.Need-returns-2 Inv-loop μ-loop
-returns-2 c = search needs
+returns-2 c = sym (decides-yes (now (c .before .before .before .args .bytes)) (c .before .loop .at) (c .before .loop .inv) (c .loop-test .left))
 
 pub all-steps-spec : {M : Type 1} → statement M
 all-steps-spec =

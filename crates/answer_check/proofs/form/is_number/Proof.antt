@@ -1,30 +1,24 @@
-use native.Mathlib.Omega.{arith}
+-- `form::is_number` meets its contract: it says whether there is one. Assumes nothing.
+use mathlib.Core.Path.{sym}
+use Rattle.answer_check.proofs.Forms.{is-some, is-none}
 use borrow.Author.Needs.{needs}
 use Rattle.answer_check.proofs.form.is_number.Statement.{statement}
 use Rattle.answer_check.proofs.form.is_number.Tie as tie
-use Rattle.answer_check.proofs.form.is_number.Reads as reads
-use Rattle.answer_check.proofs.form.is_number.Lts as lts
-use Rattle.job_text.proofs.value.read_number.Reads as read-number-reads
 
--- src/form.rt:105:11
 read-number-requires : tie.Need-read-number-requires
 read-number-requires c κs = search needs
 
--- src/form.rt:106:29
 enum-told : tie.Need-enum-told
 enum-told c = search needs
 
--- src/form.rt:107:26
 enum-told-2 : tie.Need-enum-told-2
 enum-told-2 c = search needs
 
--- src/form.rt:102:1
 returns : tie.Need-returns
-returns c = search needs
+returns c = sym (is-some (c .before .before .read-number .result) _ (c .enum-told .given .0 .0) (c .before .before .read-number .ensures) (c .enum-told .given .1))
 
--- src/form.rt:102:1
 returns-2 : tie.Need-returns-2
-returns-2 c = search needs
+returns-2 c = sym (is-none (c .before .before .read-number .result) _ (c .before .before .read-number .ensures) (c .enum-told2 .given .1))
 
 pub is-number-spec : {M : Type 1} → statement M
 is-number-spec = tie.close (tie.spec read-number-requires enum-told enum-told-2 returns returns-2)

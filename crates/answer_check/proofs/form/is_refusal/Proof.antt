@@ -1,79 +1,85 @@
+-- `form::is_refusal` meets its contract: two numbers, the words behind them, and nothing more. Assumes nothing.
+use mathlib.Core.Path.{sym, _∙_}
+use borrow.Author.Tests.{not-true, not-false}
+use denote.Ref.{now}
+use Rattle.answer_check.proofs.Forms.{no-number, no-place, refusal-behind, wrong-number, right-number}
 use native.Mathlib.Omega.{arith}
 use borrow.Author.Needs.{needs}
 use Rattle.answer_check.proofs.form.is_refusal.Statement.{statement}
 use Rattle.answer_check.proofs.form.is_refusal.Tie as tie
-use Rattle.answer_check.proofs.form.is_refusal.Reads as reads
-use Rattle.answer_check.proofs.form.is_refusal.Lts as lts
-use Rattle.answer_check.proofs.form.is_number.Reads as is-number-reads
-use Rattle.answer_check.proofs.form.value_then.Reads as value-then-reads
 
--- src/form.rt:240:39
 slice-aggregate-value-then : tie.Need-slice-aggregate-value-then
 slice-aggregate-value-then c = search needs
 
--- src/form.rt:240:9
 value-then-requires : tie.Need-value-then-requires
 value-then-requires c κs = search needs
 
--- src/form.rt:242:9
 returns : tie.Need-returns
-returns c = search needs
+returns c =
+    let a = c .before .before .before .before .before .args in
+    let first = c .before .before .value-then in
+    sym (no-number (now (a .text)) (a .at) (first .result) (first .ensures) (not-true _ (c .if1 .taken)))
 
--- src/form.rt:244:47
 slice-aggregate-value-then-2 : tie.Need-slice-aggregate-value-then-2
 slice-aggregate-value-then-2 c = search needs
 
--- src/form.rt:244:9
 value-then-requires-2 : tie.Need-value-then-requires-2
-value-then-requires-2 c κs = search needs
+value-then-requires-2 c κs = c .before .before .before .value-then .ensures .next-there (not-false _ (c .before .if1 .left))
 
--- src/form.rt:246:9
 returns-2 : tie.Need-returns-2
-returns-2 c = search needs
+returns-2 c =
+    let a = c .before .before .before .before .before .before .before .before .before .args in
+    let first = c .before .before .before .before .before .before .value-then in
+    let second = c .before .before .value-then2 in
+    sym (no-place (now (a .text)) (a .at) (first .result) (first .ensures) (not-false _ (c .before .before .before .before .if1 .left)) (second .result) (second .ensures) (not-true _ (c .if2 .taken)))
 
--- src/form.rt:249:9
 returns-3 : tie.Need-returns-3
-returns-3 c = search needs
+returns-3 c =
+    let a = c .before .before .before .before .before .before .before .before .before .before .before .args in
+    let first = c .before .before .before .before .before .before .before .before .value-then in
+    let second = c .before .before .before .before .value-then2 in
+    sym (refusal-behind (now (a .text)) (a .at) (first .result) (first .ensures) (not-false _ (c .before .before .before .before .before .before .if1 .left)) (second .result) (second .ensures) (not-false _ (c .before .before .if2 .left)) (c .if3 .taken))
 
--- src/form.rt:252:19
 sub-is-number : tie.Need-sub-is-number
-sub-is-number c = search needs
+sub-is-number c = omega (arith, c .before .before .before .before .before .before .before .before .value-then .ensures .there (not-false _ (c .before .before .before .before .before .before .if1 .left)) .low)
 
--- src/form.rt:252:19
 part-is-number-start : tie.Need-part-is-number-start
-part-is-number-start c = search needs
+part-is-number-start c = c .before .before .before .before .before .before .before .before .value-then .ensures .there (not-false _ (c .before .before .before .before .before .before .if1 .left)) .low
 
--- src/form.rt:252:19
 part-is-number-end : tie.Need-part-is-number-end
-part-is-number-end c = search needs
+part-is-number-end c = c .before .before .before .before .before .before .before .before .value-then .ensures .there (not-false _ (c .before .before .before .before .before .before .if1 .left)) .high
 
--- src/form.rt:252:9
 is-number-requires : tie.Need-is-number-requires
 is-number-requires c κs = search needs
 
--- src/form.rt:253:9
 returns-4 : tie.Need-returns-4
-returns-4 c = search needs
+returns-4 c =
+    let a = c .before .before .before .before .before .before .before .before .before .before .before .before .before .before .args in
+    let first = c .before .before .before .before .before .before .before .before .before .before .before .value-then in
+    let second = c .before .before .before .before .before .before .before .value-then2 in
+    sym (wrong-number (now (a .text)) (a .at) (first .result) (first .ensures) (not-false _ (c .before .before .before .before .before .before .before .before .before .if1 .left)) (second .result) (second .ensures) (not-false _ (c .before .before .before .before .before .if2 .left))
+    (c .before .before .before .if3 .left) (sym (c .before .is-number .ensures) ∙ not-true _ (c .if4 .taken)))
 
--- src/form.rt:257:15
 sub-is-number-2 : tie.Need-sub-is-number-2
-sub-is-number-2 c = search needs
+sub-is-number-2 c = omega (arith, c .before .before .before .before .before .before .before .value-then2 .ensures .there (not-false _ (c .before .before .before .before .before .if2 .left)) .low)
 
--- src/form.rt:257:15
 part-is-number-start-2 : tie.Need-part-is-number-start-2
-part-is-number-start-2 c = search needs
+part-is-number-start-2 c = c .before .before .before .before .before .before .before .value-then2 .ensures .there (not-false _ (c .before .before .before .before .before .if2 .left)) .low
 
--- src/form.rt:257:15
 part-is-number-end-2 : tie.Need-part-is-number-end-2
-part-is-number-end-2 c = search needs
+part-is-number-end-2 c = c .before .before .before .before .before .before .before .value-then2 .ensures .there (not-false _ (c .before .before .before .before .before .if2 .left)) .high
 
--- src/form.rt:257:5
 is-number-requires-2 : tie.Need-is-number-requires-2
 is-number-requires-2 c κs = search needs
 
--- src/form.rt:236:1
 returns-5 : tie.Need-returns-5
-returns-5 c = search needs
+returns-5 c =
+    let a = c .before .before .before .before .before .before .before .before .before .before .before .before .before .before .before .before .args in
+    let first = c .before .before .before .before .before .before .before .before .before .before .before .before .before .value-then in
+    let second = c .before .before .before .before .before .before .before .before .before .value-then2 in
+    c .is-number2 .ensures
+    ∙ sym (right-number (now (a .text)) (a .at) (first .result) (first .ensures) (not-false _ (c .before .before .before .before .before .before .before .before .before .before .before .if1 .left)) (second .result) (second .ensures) (not-false _ (c .before .before .before .before .before .before .before .if2 .left))
+    (c .before .before .before .before .before .if3 .left) (sym (c .before .before .before .is-number .ensures) ∙ not-false _ (c .before .before .if4 .left)))
 
 pub is-refusal-spec : {M : Type 1} → statement M
 is-refusal-spec =

@@ -1,47 +1,44 @@
-use native.Mathlib.Omega.{arith}
+-- `form::read_step` meets its contract: `stop`, or a number that is not 65535. Assumes nothing.
+use mathlib.Core.Path.{sym, ap, _∙_}
+use borrow.Author.Tests.{eq-eqb, ne-eqb}
+use denote.Ref.{now}
+use Rattle.job_text.specs.Given.{numberGiven}
+use Rattle.answer_check.proofs.Forms.{step-waits, step-number, step-none, step-digits}
 use borrow.Author.Needs.{needs}
 use Rattle.answer_check.proofs.form.read_step.Statement.{statement}
 use Rattle.answer_check.proofs.form.read_step.Tie as tie
-use Rattle.answer_check.proofs.form.read_step.Reads as reads
-use Rattle.answer_check.proofs.form.read_step.Lts as lts
-use Rattle.job_text.proofs.part.alike.Reads as alike-reads
-use Rattle.job_text.proofs.value.read_number.Reads as read-number-reads
 
--- src/form.rt:89:21
 slice-aggregate-alike : tie.Need-slice-aggregate-alike
 slice-aggregate-alike c = search needs
 
--- src/form.rt:89:8
 alike-requires : tie.Need-alike-requires
 alike-requires c κs = search needs
 
--- src/form.rt:90:9
 returns : tie.Need-returns
-returns c = search needs
+returns c = sym (step-waits (now (c .before .before .before .before .args .bytes)) (sym (c .before .alike .ensures) ∙ c .if1 .taken))
 
--- src/form.rt:92:31
 read-number-requires : tie.Need-read-number-requires
 read-number-requires c κs = search needs
 
--- src/form.rt:92:23
 enum-known-edge : tie.Need-enum-known-edge
 enum-known-edge c = search needs
 
--- src/form.rt:93:9
 enum-told : tie.Need-enum-told
 enum-told c = search needs
 
--- src/form.rt:93:9
 returns-2 : tie.Need-returns-2
-returns-2 c = search needs
+returns-2 c =
+    sym (step-none (now (c .before .before .before .before .before .before .before .args .bytes)) (sym (c .before .before .before .before .alike .ensures) ∙ c .before .before .before .if1 .left) (sym (c .before .before .read-number .ensures) ∙ ap numberGiven (c .enum-told .given .1)))
 
--- src/form.rt:96:9
 returns-3 : tie.Need-returns-3
-returns-3 c = search needs
+returns-3 c =
+    sym (step-digits (now (c .before .before .before .before .before .before .before .before .before .args .bytes)) (sym (c .before .before .before .before .before .before .alike .ensures) ∙ c .before .before .before .before .before .if1 .left) (c .before .before .edge .given .0 .0)
+    (sym (c .before .before .before .before .read-number .ensures) ∙ ap numberGiven (c .before .before .edge .given .1)) (c .if2 .taken))
 
--- src/form.rt:86:1
 returns-4 : tie.Need-returns-4
-returns-4 c = search needs
+returns-4 c =
+    sym (step-number (now (c .before .before .before .before .before .before .before .before .before .args .bytes)) (sym (c .before .before .before .before .before .before .alike .ensures) ∙ c .before .before .before .before .before .if1 .left) (c .before .before .edge .given .0 .0)
+    (sym (c .before .before .before .before .read-number .ensures) ∙ ap numberGiven (c .before .before .edge .given .1)) (c .if2 .left))
 
 pub read-step-spec : {M : Type 1} → statement M
 read-step-spec =

@@ -1,71 +1,81 @@
-use native.Mathlib.Omega.{arith}
+-- `form::run_values` meets its contract: the three values one after the other, and nothing behind the last. Assumes nothing.
+use borrow.Author.Tests.{not-true, not-false}
+use denote.Ref.{now}
+use Rattle.answer_check.proofs.Forms.{no-pair-value, no-prefix-value, no-cycle-value, more-behind, all-values}
 use borrow.Author.Needs.{needs}
 use Rattle.answer_check.proofs.form.run_values.Statement.{statement}
 use Rattle.answer_check.proofs.form.run_values.Tie as tie
-use Rattle.answer_check.proofs.form.run_values.Reads as reads
-use Rattle.answer_check.proofs.form.run_values.Lts as lts
-use Rattle.answer_check.proofs.form.no_values.Reads as no-values-reads
-use Rattle.answer_check.proofs.form.value_then.Reads as value-then-reads
 
--- src/form.rt:178:37
 slice-aggregate-value-then : tie.Need-slice-aggregate-value-then
 slice-aggregate-value-then c = search needs
 
--- src/form.rt:178:9
 value-then-requires : tie.Need-value-then-requires
 value-then-requires c κs = search needs
 
--- src/form.rt:180:9
 no-values-requires : tie.Need-no-values-requires
 no-values-requires c κs = search needs
 
--- src/form.rt:180:9
 returns : tie.Need-returns
-returns c = search needs
+returns c =
+    let a = c .before .before .before .before .before .before .args in
+    let first = c .before .before .before .value-then in
+    no-pair-value (now (a .text)) (a .at) (first .result) (first .ensures) _ (c .no-values .ensures) (not-true _ (c .before .if1 .taken))
 
--- src/form.rt:182:45
 slice-aggregate-value-then-2 : tie.Need-slice-aggregate-value-then-2
 slice-aggregate-value-then-2 c = search needs
 
--- src/form.rt:182:9
 value-then-requires-2 : tie.Need-value-then-requires-2
-value-then-requires-2 c κs = search needs
+value-then-requires-2 c κs = c .before .before .before .value-then .ensures .next-there (not-false _ (c .before .if1 .left))
 
--- src/form.rt:184:9
 no-values-requires-2 : tie.Need-no-values-requires-2
 no-values-requires-2 c κs = search needs
 
--- src/form.rt:184:9
 returns-2 : tie.Need-returns-2
-returns-2 c = search needs
+returns-2 c =
+    let a = c .before .before .before .before .before .before .before .before .before .before .args in
+    let first = c .before .before .before .before .before .before .before .value-then in
+    let second = c .before .before .before .value-then2 in
+    no-prefix-value (now (a .text)) (a .at) (first .result) (first .ensures) (not-false _ (c .before .before .before .before .before .if1 .left)) (second .result) (second .ensures) _ (c .no-values2 .ensures)
+    (not-true _ (c .before .if2 .taken))
 
--- src/form.rt:186:47
 slice-aggregate-value-then-3 : tie.Need-slice-aggregate-value-then-3
 slice-aggregate-value-then-3 c = search needs
 
--- src/form.rt:186:9
 value-then-requires-3 : tie.Need-value-then-requires-3
-value-then-requires-3 c κs = search needs
+value-then-requires-3 c κs = c .before .before .before .value-then2 .ensures .next-there (not-false _ (c .before .if2 .left))
 
--- src/form.rt:188:9
 no-values-requires-3 : tie.Need-no-values-requires-3
 no-values-requires-3 c κs = search needs
 
--- src/form.rt:188:9
 returns-3 : tie.Need-returns-3
-returns-3 c = search needs
+returns-3 c =
+    let a = c .before .before .before .before .before .before .before .before .before .before .before .before .before .before .args in
+    let first = c .before .before .before .before .before .before .before .before .before .before .before .value-then in
+    let second = c .before .before .before .before .before .before .before .value-then2 in
+    let third = c .before .before .before .value-then3 in
+    no-cycle-value (now (a .text)) (a .at) (first .result) (first .ensures) (not-false _ (c .before .before .before .before .before .before .before .before .before .if1 .left)) (second .result) (second .ensures)
+    (not-false _ (c .before .before .before .before .before .if2 .left)) (third .result) (third .ensures) _ (c .no-values3 .ensures) (not-true _ (c .before .if3 .taken))
 
--- src/form.rt:191:9
 no-values-requires-4 : tie.Need-no-values-requires-4
 no-values-requires-4 c κs = search needs
 
--- src/form.rt:191:9
 returns-4 : tie.Need-returns-4
-returns-4 c = search needs
+returns-4 c =
+    let a = c .before .before .before .before .before .before .before .before .before .before .before .before .before .before .before .before .args in
+    let first = c .before .before .before .before .before .before .before .before .before .before .before .before .before .value-then in
+    let second = c .before .before .before .before .before .before .before .before .before .value-then2 in
+    let third = c .before .before .before .before .before .value-then3 in
+    more-behind (now (a .text)) (a .at) (first .result) (first .ensures) (not-false _ (c .before .before .before .before .before .before .before .before .before .before .before .if1 .left)) (second .result) (second .ensures)
+    (not-false _ (c .before .before .before .before .before .before .before .if2 .left)) (third .result) (third .ensures) (not-false _ (c .before .before .before .if3 .left)) _ (c .no-values4 .ensures) (c .before .if4 .taken)
 
--- src/form.rt:174:1
 returns-5 : tie.Need-returns-5
-returns-5 c = search needs
+returns-5 c =
+    let a = c .before .before .before .before .before .before .before .before .before .before .before .before .before .before .before .args in
+    let first = c .before .before .before .before .before .before .before .before .before .before .before .before .value-then in
+    let second = c .before .before .before .before .before .before .before .before .value-then2 in
+    let third = c .before .before .before .before .value-then3 in
+    all-values (now (a .text)) (a .at) (first .result) (first .ensures) (not-false _ (c .before .before .before .before .before .before .before .before .before .before .if1 .left)) (second .result) (second .ensures)
+    (not-false _ (c .before .before .before .before .before .before .if2 .left)) (third .result) (third .ensures) (not-false _ (c .before .before .if3 .left)) (c .if4 .left)
 
 pub run-values-spec : {M : Type 1} → statement M
 run-values-spec =

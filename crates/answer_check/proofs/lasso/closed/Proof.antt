@@ -1,21 +1,18 @@
-use borrow.Author.Needs.{needs}
-use native.Mathlib.Omega.{arith}
+-- `lasso::closed` meets its contract: no edge, an end elsewhere, or the knot again. Assumes nothing.
+use mathlib.Core.Path.{_≡_, refl, sym, ap, _∙_, subst}
+use mathlib.Core.Logic.{inr}
+use Rattle.answer_check.proofs.Lassos.{turn-empty, turn-open, turn-closed}
 use Rattle.answer_check.proofs.lasso.closed.Statement.{statement}
 use Rattle.answer_check.proofs.lasso.closed.Tie as tie
-use Rattle.answer_check.proofs.lasso.closed.Reads as reads
-use Rattle.answer_check.proofs.lasso.closed.Lts as lts
 
--- src/lasso.rt:21:9
 returns : tie.Need-returns
-returns c = search needs
+returns c = λ g K T. turn-empty g _ _ _ _ K T (c .if1 .taken)
 
--- src/lasso.rt:27:9
 returns-2 : tie.Need-returns-2
-returns-2 c = search needs
+returns-2 c = λ g K T. turn-open g _ _ _ _ K T (c .before .if1 .left) (c .if2 .taken)
 
--- src/lasso.rt:17:1
 returns-3 : tie.Need-returns-3
-returns-3 c = search needs
+returns-3 c = λ g K T. turn-closed g _ _ _ _ K T (c .before .if1 .left) (c .if2 .left)
 
 pub closed-spec : {M : Type 1} → statement M
 closed-spec = tie.close (tie.spec returns returns-2 returns-3)

@@ -1,47 +1,46 @@
-use borrow.Author.Needs.{needs}
+-- `walk::leaves` meets its contract: none of the edges looked at leaves the state. The measure is what is left of the table. Assumes nothing.
+use mathlib.Core.Path.{_≡_, sym, ap, _∙_}
+use Prim.Native.Nat.{ℕ, _-_, _<_}
+use denote.Ref.{now}
+use lib.ListN.{length, getD}
+use Rattle.marks.proofs.Cases.{same}
 use native.Mathlib.Omega.{arith}
+use borrow.Author.Needs.{needs}
 use Rattle.answer_check.proofs.walk.leaves.Statement.{statement}
 use Rattle.answer_check.proofs.walk.leaves.Tie as tie
-use Rattle.answer_check.proofs.walk.leaves.Reads as reads
-use Rattle.answer_check.proofs.walk.leaves.Lts as lts
 
 abbrev Inv-loop : tie.InvT-loop
-Inv-loop from state e₀ e = ?
+Inv-loop from state e₀ e = (d : ℕ) → d < e → getD from d 0 ≡ state → ⊥
 
 abbrev μ-loop : tie.MeasureT-loop
-μ-loop from state e₀ e = ?
+μ-loop from state e₀ e = length from - e
 
--- src/walk.rt:46:5
 loop-holds : tie.Need-loop-holds Inv-loop μ-loop
-loop-holds c = search needs
+loop-holds c = λ d l q. omega arith
 
--- src/walk.rt:47:12
 mul-if1 : tie.Need-mul-if1 Inv-loop μ-loop
 mul-if1 c = search needs
 
--- src/walk.rt:47:12
 shared-slice-read-if1 : tie.Need-shared-slice-read-if1 Inv-loop μ-loop
 shared-slice-read-if1 c = search needs
 
--- src/walk.rt:48:13
 returns : tie.Need-returns Inv-loop μ-loop
-returns c = search needs
+returns c = (c .before .before .before .loop .e, (c .before .before .loop-test .taken, c .if1 .taken))
 
--- src/walk.rt:50:9
 add-e : tie.Need-add-e Inv-loop μ-loop
 add-e c = search needs
 
--- src/walk.rt:46:5
 loop-less : tie.Need-loop-less Inv-loop μ-loop
 loop-less c = search needs
 
--- src/walk.rt:46:5
 loop-again : tie.Need-loop-again Inv-loop μ-loop
-loop-again c = search needs
+loop-again c =
+    let at-loop = c .before .before .before in
+    let from = now (at-loop .before .args .from) in
+    λ d l q. same d (at-loop .loop .e) (λ (w : d ≡ at-loop .loop .e). c .if1 .left (ap (λ (x : ℕ). getD from x 0) (sym w) ∙ q)) (λ w. at-loop .loop .inv d (omega arith) q)
 
--- src/walk.rt:42:1
 returns-2 : tie.Need-returns-2 Inv-loop μ-loop
-returns-2 c = search needs
+returns-2 c = λ d l q. c .before .loop .inv d (omega (arith, c .loop-test .left)) q
 
 pub leaves-spec : {M : Type 1} → statement M
 leaves-spec =

@@ -255,6 +255,7 @@ pub fn print_refused(number: u32, place: u32, out: &mut [u8]) -> Printed
     let room = [0u32; 0];
     let refused = Answer {
         verdict: Verdict::Refused { number, place },
+        depth: 0,
     };
     print(refused, Acceptance::Buchi(0), &room, out)
 }

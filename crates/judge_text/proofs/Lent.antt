@@ -18,7 +18,8 @@ use Rattle.table.specs.Table.{Table, lent}
 use Rattle.table.specs.Refusal.{wrongCondition, refusal}
 use Rattle.table.proofs.Sound.{sound-fit}
 use Rattle.job_text.specs.Job.{mostJobStates, mostJobEdges, Job}
-use Rattle.judging.specs.Answer.{rank, roomNeeded, scratchNeeded, further, judgeRefusal, ByCause, Answers}
+use Rattle.hunting.specs.Rank.{rank}
+use Rattle.judging.specs.Answer.{roomNeeded, scratchNeeded, further, judgeRefusal, ByCause, Answers}
 use Rattle.judging.proofs.Ranks.{rank-few}
 use Rattle.job_text.specs.Asked.{jobTable}
 use Rattle.judge_text.specs.Replied.{lentRoom, lentScratch}

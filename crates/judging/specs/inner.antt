@@ -1,7 +1,3 @@
 -- What private functions ask and promise; nothing that a caller of the judge has to believe.
--- Judgement, Hunt: the judgement of a part, the hunt for one that holds an accepted lasso.
-pub mod Judgement
-pub mod Hunt
--- Stamping, Writing: the parts among which the lasso is chosen, and the lasso that is written.
-pub mod Stamping
+-- Writing: the lasso that is written.
 pub mod Writing

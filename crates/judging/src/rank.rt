@@ -1,15 +1,8 @@
 // r of docs/RULES.md: how many marks a cycle may have to be led past.
 ghost use mathlib.Core.Path.{_≡_};
-ghost use Prim.Native.Nat.{max};
-ghost use Rattle.judging.specs.Answer.{largest, rank};
+ghost use Rattle.hunting.specs.Rank.{largest, rank};
+use hunting::judgement::larger;
 use table::Acceptance;
-
-// The larger of two numbers.
-pub(crate) fn larger(a: u32, b: u32) -> u32
-    ensures { λ r. ⌜ r ≡ max a b ⌝ }
-{
-    if a < b { b } else { a }
-}
 
 // The largest of the eight needs.
 fn largest_need(needs: [u32; 8]) -> u32

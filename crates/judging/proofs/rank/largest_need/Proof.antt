@@ -5,7 +5,7 @@ use Prim.Native.Nat.{ℕ, _+_, _-_, _≤_, max}
 use native.Mathlib.Omega.{arith}
 use lib.ListN.{length, drop}
 use borrow.Author.Needs.{needs as trivial}
-use Rattle.judging.specs.Answer.{largest}
+use Rattle.hunting.specs.Rank.{largest}
 use Rattle.judging.proofs.rank.Largest.{largest-more, largest-done}
 use Rattle.judging.proofs.rank.largest_need.Statement.{statement}
 use Rattle.judging.proofs.rank.largest_need.Tie as tie

@@ -73,11 +73,10 @@ pair-forbidden p needs M pair d e h = (λ q. absurd (false≢true q), λ m. absu
 
 pub pair-needed : (p : ℕ) (needs : List ℕ) (M pair d : ℕ) (r : Bool) → pair < p → d ≡ dealt needs pair → (has d M → ⊥)
     → (r ≡ true) ↔ Each (λ j. has (d + 1 + j) M) (getD needs pair 0) → (r ≡ true) ↔ Meets (Rabin p) needs M pair
-pair-needed p needs M pair d r l e h q =
-    (
-      λ t. (l, record { absent = λ g. h (subst (λ (x : ℕ). has x M) (sym e) g); present = λ j k. subst (λ (x : ℕ). has (x + 1 + j) M) e (q .0 t j k) }),
-      λ m. q .1 (λ j k. subst (λ (x : ℕ). has (x + 1 + j) M) (sym e) (m .1 .present j k)),
-    )
+pair-needed p needs M pair d r l e h q = (
+  λ t. (l, record { absent = λ g. h (subst (λ (x : ℕ). has x M) (sym e) g); present = λ j k. subst (λ (x : ℕ). has (x + 1 + j) M) e (q .0 t j k) }),
+  λ m. q .1 (λ j k. subst (λ (x : ℕ). has (x + 1 + j) M) (sym e) (m .1 .present j k)),
+)
 
 -- ---- one Streett pair
 

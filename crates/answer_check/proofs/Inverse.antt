@@ -53,7 +53,7 @@ value-back : (word xs : List ℕ) (c : Cut) → valueThen word xs ≡ some c →
 unfolding valueThen
 value-back word xs c e =
     let p = passed (startsWith word (drop (ahead newline xs) xs))
-        (some (record { value = take (ahead newline xs) xs; rest = drop (length word) (drop (ahead newline xs) xs) })) c e in
+    (some (record { value = take (ahead newline xs) xs; rest = drop (length word) (drop (ahead newline xs) xs) })) c e in
     let q : record { value = take (ahead newline xs) xs; rest = drop (length word) (drop (ahead newline xs) xs) } ≡ c = some-same (p .1) in
     let s : drop (ahead newline xs) xs ≡ word ++ drop (length word) (drop (ahead newline xs) xs) = starts-back word (drop (ahead newline xs) xs) (p .0) in
     sym (take-append-drop (ahead newline xs) xs) ∙ ap (λ (l : List ℕ). take (ahead newline xs) xs ++ l) s ∙ ap (λ (k : Cut). k .value ++ (word ++ k .rest)) q
@@ -226,13 +226,13 @@ run-back c xs s r =
     let f-is : b .first .value ≡ listText (f .first) = ap (λ (k : RunText). k .prefix) parts ∙ F .0 in
     let g-is : d .first .value ≡ listText (g .first) = ap (λ (k : RunText). k .cycle) parts ∙ G .0 in
     let last : b .first .rest ≡ listText (g .first) ++ ((newline ∷ []) ++ []) =
-        three ∙ ap (λ (l : List ℕ). l ++ ((newline ∷ []) ++ d .first .rest)) g-is ∙ ap (λ (l : List ℕ). listText (g .first) ++ ((newline ∷ []) ++ l)) (o .0) in
+    three ∙ ap (λ (l : List ℕ). l ++ ((newline ∷ []) ++ d .first .rest)) g-is ∙ ap (λ (l : List ℕ). listText (g .first) ++ ((newline ∷ []) ++ l)) (o .0) in
     let middle : a .first .rest ≡ listText (f .first) ++ (thenCycle ++ (listText (g .first) ++ ((newline ∷ []) ++ []))) =
-        two ∙ ap (λ (l : List ℕ). l ++ (thenCycle ++ b .first .rest)) f-is ∙ ap (λ (l : List ℕ). listText (f .first) ++ (thenCycle ++ l)) last in
+    two ∙ ap (λ (l : List ℕ). l ++ (thenCycle ++ b .first .rest)) f-is ∙ ap (λ (l : List ℕ). listText (f .first) ++ (thenCycle ++ l)) last in
     let whole : xs ≡ behindRun (cond (isRabin c) (decimal pair) dash) (listText (f .first)) (listText (g .first)) =
-        one ∙ ap (λ (l : List ℕ). l ++ (thenPrefix ++ a .first .rest)) p-is ∙ ap (λ (l : List ℕ). cond (isRabin c) (decimal pair) dash ++ (thenPrefix ++ l)) middle in
+    one ∙ ap (λ (l : List ℕ). l ++ (thenPrefix ++ a .first .rest)) p-is ∙ ap (λ (l : List ℕ). cond (isRabin c) (decimal pair) dash ++ (thenPrefix ++ l)) middle in
     let ours : Ours c (run pair (f .first) (g .first)) =
-        record { prefix-within = F .1; cycle-within = G .1; pair-within = P .1 .0; no-pair = P .1 .1 } in
+    record { prefix-within = F .1; cycle-within = G .1; pair-within = P .1 .0; no-pair = P .1 .1 } in
     rw (sym said) (record { ours = ours; prints = ap (λ (l : List ℕ). runHead ++ l) whole ∙ sym (run-text c pair (f .first) (g .first)) })
 
 refused-back : (c : Acceptance) (xs : List ℕ) (s : Said) → refusedGiven xs ≡ some s → Says c (refusedHead ++ xs) s
@@ -249,9 +249,9 @@ refused-back c xs s r =
     let one : xs ≡ a .first .value ++ (thenPlace ++ a .first .rest) = value-back thenPlace xs (a .first) (a .there) in
     let two : a .first .rest ≡ b .first .value ++ (refusedTail ++ b .first .rest) = value-back refusedTail (a .first .rest) (b .first) (b .there) in
     let last : a .first .rest ≡ decimal (f .first) ++ (refusedTail ++ []) =
-        two ∙ ap (λ (l : List ℕ). l ++ (refusedTail ++ b .first .rest)) (F .0) ∙ ap (λ (l : List ℕ). decimal (f .first) ++ (refusedTail ++ l)) (o .0) in
+    two ∙ ap (λ (l : List ℕ). l ++ (refusedTail ++ b .first .rest)) (F .0) ∙ ap (λ (l : List ℕ). decimal (f .first) ++ (refusedTail ++ l)) (o .0) in
     let whole : xs ≡ behindRefused (decimal (e .first)) (decimal (f .first)) =
-        one ∙ ap (λ (l : List ℕ). l ++ (thenPlace ++ a .first .rest)) (E .0) ∙ ap (λ (l : List ℕ). decimal (e .first) ++ (thenPlace ++ l)) last in
+    one ∙ ap (λ (l : List ℕ). l ++ (thenPlace ++ a .first .rest)) (E .0) ∙ ap (λ (l : List ℕ). decimal (e .first) ++ (thenPlace ++ l)) last in
     let ours : Ours c (refused (e .first) (f .first)) = record { number-within = E .1; place-within = F .1 } in
     rw (sym said) (record { ours = ours; prints = ap (λ (l : List ℕ). refusedHead ++ l) whole ∙ sym (refused-text c (e .first) (f .first)) })
 

@@ -46,7 +46,7 @@ module _ (rabin : Bool) (text : List ℕ) (at : ℕ) (r : RunValues) (W : Values
         ≡ runOf rabin (record { pair = part at (r .pair) text; prefix = part (r .prefix) (r .middle) text; cycle = part (r .cycle) (r .last) text })
     run-is =
         let there : runText (drop at text)
-            ≡ some (record { pair = part at (r .pair) text; prefix = part (r .prefix) (r .middle) text; cycle = part (r .cycle) (r .last) text }) = sym (W .is) ∙ rw f in
+        ≡ some (record { pair = part at (r .pair) text; prefix = part (r .prefix) (r .middle) text; cycle = part (r .cycle) (r .last) text }) = sym (W .is) ∙ rw f in
         ap (λ (o : Option RunText). andThen o (runOf rabin)) there
 
     pub pair-wrong : pairGiven rabin (part at (r .pair) text) ≡ none → runGiven rabin (drop at text) ≡ none

@@ -186,7 +186,7 @@ told-accepted j text answer r o s e (malformed m f) = not-accepted (sym f ∙ e)
 told-accepted j text answer r o s e (no-run n f) = not-accepted (sym f ∙ e)
 told-accepted j text answer r o s e (run-judged R) =
     let H : Holds (jobTable j) (j .condition) (j .needs) (R .pair) (R .prefix) (R .cycle) =
-        subst (Judged (jobTable j) (j .condition) (j .needs) (R .pair) (R .prefix) (R .cycle)) e (R .judged) in
+    subst (Judged (jobTable j) (j .condition) (j .needs) (R .pair) (R .prefix) (R .cycle)) e (R .judged) in
     record {
       asked = j;
       read = o;
@@ -213,9 +213,9 @@ pub accepted-so : (text answer : List ℕ) → NamesAccepted text answer → Che
 accepted-so text answer N =
     let j = N .asked in
     let told : Told (jobTable j) (j .condition) (j .needs) answer checked.Accepted =
-        run-judged (record { pair = N .pair; prefix = N .prefix; cycle = N .cycle; says = N .says; judged = record { lasso = N .accepted .lasso; met = N .met } }) in
+    run-judged (record { pair = N .pair; prefix = N .prefix; cycle = N .cycle; says = N .says; judged = record { lasso = N .accepted .lasso; met = N .met } }) in
     let caused : ByJob (job j) answer checked.Accepted =
-        subst (λ (f : Finding). ByCause f (jobTable j) (j .condition) (j .needs) answer checked.Accepted) (sym (N .sound)) told in
+    subst (λ (f : Finding). ByCause f (jobTable j) (j .condition) (j .needs) answer checked.Accepted) (sym (N .sound)) told in
     subst (λ (o : Outcome). ByJob o answer checked.Accepted) (sym (N .read)) caused
 
 pub accepted-exactly : (text answer : List ℕ) (r : Checked) → Checks text answer r → (r ≡ checked.Accepted) ↔ NamesAccepted text answer

@@ -19,8 +19,7 @@ enum-told c = search needs
 check-sound-requires : tie.Need-check-sound-requires
 check-sound-requires c κs =
     let a = c .before .before .before .before .before .before .before .args in
-    let k = c .before .before .check in
-    (
+    let k = c .before .before .check in (
       even (a .states) (a .start) (now (a .from)) (now (a .to)) (now (a .marks)) (a .condition) (a .needs) (now (a .answer)) (k .result) (k .ensures) (c .enum-told .given .1),
       permitted (a .states) (a .start) (now (a .from)) (now (a .to)) (now (a .marks)) (a .condition) (a .needs) (now (a .answer)) (k .result) (k .ensures) (c .enum-told .given .1),
     )

@@ -86,11 +86,10 @@ loop-again c =
     let a = c .before .before .before .before .before .before .before .before .before .before .before .before .before .before .before .before .args in
     let l = c .before .before .before .before .before .before .before .before .before .before .before .loop in
     let found = c .before .before .before .before .before .before .before .before .before .find in
-    let x = c .before .before .before .before .before .edge .given .0 .0 in
-    (
+    let x = c .before .before .before .before .before .edge .given .0 .0 in (
       goes-on (now (a .list)) (a .begin) (now (a .from)) (now (a .to)) (now (a .marks)) (l .at) (l .position) (l .place) (l .inv .0) (c .before .before .before .before .before .before .before .before .before .before .loop-test .taken) (found .result) (found .ensures) x
-      (sym (c .before .before .before .before .before .before .before .read-step .ensures) ∙ ap numberGiven (c .before .before .before .before .before .edge .given .1)) _
-      (subst (GoSays (now (a .from)) (now (a .to)) (now (a .marks)) (l .place) x) (c .before .next .given .1) (c .before .before .before .go .ensures)),
+          (sym (c .before .before .before .before .before .before .before .read-step .ensures) ∙ ap numberGiven (c .before .before .before .before .before .edge .given .1)) _
+          (subst (GoSays (now (a .from)) (now (a .to)) (now (a .marks)) (l .place) x) (c .before .next .given .1) (c .before .before .before .go .ensures)),
       omega (arith, l .inv .1, found .ensures .low),
     )
 

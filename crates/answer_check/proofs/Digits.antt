@@ -11,9 +11,10 @@ use borrow.Author.Tests.{le-leb, leb-true, lt-ltb, le-ltb, ne-eqb, eq-eqb}
 use Rattle.marks.proofs.Cases.{below}
 use Rattle.puts.specs.Put.{decimalIn, decimal}
 use Rattle.puts.proofs.Puts.{decimal-one, decimal-more}
-use Rattle.job_text.specs.Value.{andThen, between, digit, spelt, mostNumber, leadingZero, atMost, number}
+use Rattle.digits.specs.Digit.{between, digit}
+use Rattle.digits.proofs.Digits.{within}
+use Rattle.job_text.specs.Value.{andThen, spelt, mostNumber, leadingZero, atMost, number}
 use Rattle.job_text.proofs.Text.{byTest}
-use Rattle.job_text.proofs.Values.{within}
 
 -- ---- what an answer that is there says of the tests before it
 

@@ -257,7 +257,7 @@ pub fn judge<'r>(table: &Table, condition: &Condition, room: &'r mut [u32], scra
 /// use mukhadero::{Condition, Judge, Table, Verdict};
 ///
 /// let table = Table { states: 2, start: 0, from: &[], to: &[], marks: &[] };
-/// assert_eq!(Judge::new().judge(&table, &Condition::Streett { pairs: 0 }), Ok(Verdict::Empty));
+/// assert_eq!(Judge::new().judge(&table, &Condition::Buchi { marks: 1 }), Ok(Verdict::Empty));
 /// ```
 #[derive(Clone, Debug, Default)]
 pub struct Judge {

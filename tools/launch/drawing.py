@@ -12,7 +12,7 @@ from answers import STOP, numbers_of
 
 MOST_STATES = 60  # of a table that is drawn whole
 MOST_PLACES = 6  # in the run that are named of one edge
-FAR = 6  # edges from the start to the farthest state, above which a picture goes down the page and not across
+FAR = 3  # edges from the start to the farthest state, above which a picture goes down the page and not across
 NAME_WIDE, NAME_LINES = 20, 4  # of a state's name
 MARKS_WIDE = 8  # marks in a line
 

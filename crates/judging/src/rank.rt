@@ -1,7 +1,7 @@
 // r of docs/RULES.md: how many marks a cycle may have to be led past.
 ghost use mathlib.Core.Path.{_≡_};
 ghost use Rattle.hunting.specs.Rank.{largest, rank};
-use hunting::judgement::larger;
+use sentencing::depth::larger;
 use table::Acceptance;
 
 // The largest of the eight needs.

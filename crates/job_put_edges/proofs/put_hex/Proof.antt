@@ -5,9 +5,9 @@ use native.Mathlib.Omega.{arith}
 use borrow.Author.Needs.{needs}
 use Rattle.puts.specs.Put.{joined, PutFew}
 use Rattle.puts.proofs.Few.{joined-none, joined-more, few-word, few-length}
-use Rattle.job_writer.specs.Written.{hexAt}
-use Rattle.job_writer.proofs.edges.put_hex.Statement.{statement}
-use Rattle.job_writer.proofs.edges.put_hex.Tie as tie
+use Rattle.job_put_edges.specs.Edges.{hexAt}
+use Rattle.job_put_edges.proofs.put_hex.Statement.{statement}
+use Rattle.job_put_edges.proofs.put_hex.Tie as tie
 
 abbrev Inv-loop : tie.InvT-loop
 Inv-loop out₀ at set next₀ i₀ out next i = (i ≤ 8) × PutFew out₀ out at (joined (hexAt set) i) next i

@@ -13,8 +13,8 @@ use Rattle.digits.specs.Digit.{hexDigit}
 use Rattle.digits.proofs.Digits.{within, over}
 use Rattle.puts.specs.Put.{joined}
 use Rattle.job_text.specs.Value.{spelt, hexDigits, hexWord}
-use Rattle.job_writer.specs.Written.{hexByte, hexAt, hexText}
-use Rattle.job_writer.proofs.Decimals.{Over, over-both, spelt-last}
+use Rattle.job_put_edges.specs.Edges.{hexByte, hexAt, hexText}
+use Rattle.job_put_edges.proofs.Decimals.{Over, over-both, spelt-last}
 
 -- ---- one digit
 

@@ -6,11 +6,11 @@ use denote.Ref.{now}
 use lib.ListN.{length, getD}
 use Rattle.puts.specs.Put.{PutFew}
 use Rattle.puts.proofs.Few.{joined-none, joined-more, few-more, few-length}
-use Rattle.job_writer.specs.Written.{edgeText, edgesText}
+use Rattle.job_put_edges.specs.Edges.{edgeText, edgesText}
 use native.Mathlib.Omega.{arith}
 use borrow.Author.Needs.{needs}
-use Rattle.job_writer.proofs.edges.put_edges.Statement.{statement}
-use Rattle.job_writer.proofs.edges.put_edges.Tie as tie
+use Rattle.job_put_edges.proofs.put_edges.Statement.{statement}
+use Rattle.job_put_edges.proofs.put_edges.Tie as tie
 
 abbrev Inv-loop : tie.InvT-loop
 Inv-loop out₀ at from to marks next₀ i₀ out next i = (i ≤ length from) × PutFew out₀ out at (edgesText from to marks i) next (40 * i)

@@ -1,12 +1,13 @@
-// The edge lines: two states and eight hex digits.
+// The edge lines of a job text, for the crate `job_writer`: two states and eight hex digits. Relies on `puts` for words and numbers. What is written is in specs/Edges.antt, what
+// the functions ask in specs/inner.antt.
 use puts::put;
 use puts::put_held;
 ghost use mathlib.Core.Path.{_≡_};
 ghost use Prim.Native.Nat.{_^_, _<_};
 ghost use lib.ListN.{length};
 ghost use Rattle.puts.specs.Put.{PutFew};
-ghost use Rattle.job_writer.specs.Written.{hexByte, hexText, edgeText, edgesText};
-ghost use Rattle.job_writer.specs.inner.{Passed};
+ghost use Rattle.job_put_edges.specs.Edges.{hexByte, hexText, edgeText, edgesText};
+ghost use Rattle.job_put_edges.specs.inner.{Passed};
 
 // The byte of a hex digit.
 fn hex_byte(digit: u32) -> u8
@@ -48,7 +49,7 @@ fn put_edge(out: &mut [u8], at: usize, from: u32, to: u32, set: u32) -> usize
 }
 
 // The lines of the edges.
-pub(crate) fn put_edges(out: &mut [u8], at: usize, from: &[u32], to: &[u32], marks: &[u32]) -> usize
+pub fn put_edges(out: &mut [u8], at: usize, from: &[u32], to: &[u32], marks: &[u32]) -> usize
     requires { ⌜ at < 2 ^ 20 ⌝ }
     requires { ⌜ Passed (now from) (now to) (now marks) ⌝ }
     ensures { λ r. ⌜ PutFew (now (out .entry)) (now (out .exit)) at (edgesText (now (from .entry)) (now (to .entry)) (now (marks .entry)) (length (now (from .entry)))) r 20480 ⌝ }

@@ -2,9 +2,9 @@
 use mathlib.Core.Path.{sym}
 use native.Mathlib.Omega.{arith}
 use borrow.Author.Needs.{needs}
-use Rattle.job_writer.proofs.Hex.{byte-low, byte-high}
-use Rattle.job_writer.proofs.edges.hex_byte.Statement.{statement}
-use Rattle.job_writer.proofs.edges.hex_byte.Tie as tie
+use Rattle.job_put_edges.proofs.Hex.{byte-low, byte-high}
+use Rattle.job_put_edges.proofs.hex_byte.Statement.{statement}
+use Rattle.job_put_edges.proofs.hex_byte.Tie as tie
 
 cast-value : tie.Need-cast-value
 cast-value c = search needs

@@ -1,11 +1,11 @@
 -- `edges::put_edge` meets its contract: two states, the digits and the newline byte, one after another. Assumes nothing.
 use Rattle.puts.proofs.Few.{few-word, few-both}
-use Rattle.job_writer.specs.Written.{edgeText}
-use Rattle.job_writer.proofs.Pieces.{edge-pieces}
+use Rattle.job_put_edges.specs.Edges.{edgeText}
+use Rattle.job_put_edges.proofs.Pieces.{edge-pieces}
 use native.Mathlib.Omega.{arith}
 use borrow.Author.Needs.{needs}
-use Rattle.job_writer.proofs.edges.put_edge.Statement.{statement}
-use Rattle.job_writer.proofs.edges.put_edge.Tie as tie
+use Rattle.job_put_edges.proofs.put_edge.Statement.{statement}
+use Rattle.job_put_edges.proofs.put_edge.Tie as tie
 
 slice-aggregate-put-held : tie.Need-slice-aggregate-put-held
 slice-aggregate-put-held c = search needs

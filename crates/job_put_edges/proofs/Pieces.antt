@@ -5,7 +5,7 @@ use Prim.Native.Nat.{ℕ}
 use Rattle.puts.specs.Put.{decimal, held}
 use Rattle.job_text.specs.Text.{newline, comma}
 use Rattle.job_text.specs.Job.{edge=}
-use Rattle.job_writer.specs.Written.{hexText, shown, edgeText}
+use Rattle.job_put_edges.specs.Edges.{hexText, shown, edgeText}
 
 -- the key with the first state, the second state, the digits, the newline byte
 pub edge-pieces : (f t set : ℕ) → edgeText f t set ≡ held edge= f comma ++ (held [] t comma ++ (hexText set ++ (newline ∷ [])))

@@ -17,10 +17,10 @@ use Rattle.hoa_tokens.specs.Token.{Token}
 use Rattle.hoa_tokens.specs.Stream.{Placed, tokensAt}
 use Rattle.hoa_label.specs.Label.{labelDepth, mostLevels}
 use Rattle.hoa_formula.specs.Standard.{mostPairs}
-use Rattle.hoa_writer.specs.Written.{hoaText}
-use Rattle.hoa_writer.specs.Writing.{mostWritten, mostWrittenEdges}
-use Rattle.hoa_writer.proofs.Tokens.{written-tokens}
-use Rattle.hoa_writer.proofs.Back.{byState}
+use Rattle.hoa_written.specs.Written.{hoaText}
+use Rattle.hoa_written.specs.Writing.{mostWritten, mostWrittenEdges}
+use Rattle.hoa_written.proofs.Tokens.{written-tokens}
+use Rattle.hoa_written.proofs.Back.{byState}
 use Rattle.hoa_grammar.specs.Doc.{Conj, Item}
 use Rattle.hoa_grammar.specs.Subset.{Each, eachNone, eachMore, differNone, given, ItemFits, Once, Formula, StandardAs, pairsIn, Says, Limited}
 use Rattle.hoa_grammar.specs.Walk.{tokensOf}

@@ -15,8 +15,8 @@ use Rattle.hoa_tokens.specs.declared.Header.the-variants as header-is
 use Rattle.hoa_tokens.specs.declared.Sign.the-variants as sign-is
 use Rattle.hoa_tokens.specs.Token.{Token, int, word, header, sign, body, end, finish}
 use Rattle.hoa_label.specs.Label.{Label, Lconj, Lfactor, labelText}
-use Rattle.hoa_writer.specs.Tokens.{joinedTokens, formulaTokens, markTokens, sigTokens, edgeTokens, leavingTokens, rowTokens, writtenTokens}
-use Rattle.hoa_writer.proofs.Back.{upTo, leavingTo}
+use Rattle.hoa_written.specs.Tokens.{joinedTokens, formulaTokens, markTokens, sigTokens, edgeTokens, leavingTokens, rowTokens, writtenTokens}
+use Rattle.hoa_written.proofs.Back.{upTo, leavingTo}
 use Rattle.hoa_grammar.specs.Doc as tree
 use Rattle.hoa_grammar.specs.Doc.{Conj, Item, EdgeTree, Row, Doc, conjText, stringsText, itemText, itemsText, intsText, perhapsSig, edgesText, rowsText, docText}
 use Rattle.hoa_round.proofs.Trees.{formula-tree}

@@ -12,8 +12,8 @@ use Rattle.table.specs.Refusal.{refusal}
 use Rattle.job_text.specs.Value.{Edge}
 use Rattle.job_text.specs.Job.{Job, job}
 use Rattle.hoa_formula.specs.Standard.{noNeeds, mostPairs}
-use Rattle.hoa_writer.specs.Written.{hoaText}
-use Rattle.hoa_writer.specs.Writing.{mostWritten, mostWrittenEdges}
+use Rattle.hoa_written.specs.Written.{hoaText}
+use Rattle.hoa_written.specs.Writing.{mostWritten, mostWrittenEdges}
 use Rattle.hoa.specs.Reading.{readHoa}
 
 -- the condition: "Streett 0 comes back as Büchi 0", both are written as `t`

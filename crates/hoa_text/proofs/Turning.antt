@@ -21,8 +21,8 @@ use Rattle.answer_text.specs.Printed.{refusedText, Prints}
 use Rattle.writing.specs.declared.Written.{Written}
 use Rattle.writing.specs.declared.Written.the-variants as written
 use Rattle.writing.specs.Writing.{writtenOf, outputOf}
-use Rattle.hoa_writer.specs.Written.{hoaText}
-use Rattle.hoa_writer.specs.Writing.{mostBytes, writeRefusal, Writes}
+use Rattle.hoa_written.specs.Written.{hoaText}
+use Rattle.hoa_written.specs.Writing.{mostBytes, writeRefusal, Writes}
 use Rattle.hoa_writer.proofs.Writings.{not-large}
 use Rattle.hoa_writer.proofs.Size.{most-bytes}
 use Rattle.job_text.specs.Asked.{edgeCells, jobTable}

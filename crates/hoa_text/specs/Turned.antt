@@ -7,8 +7,8 @@ use Rattle.table.specs.declared.Finding.{Finding}
 use Rattle.table.specs.declared.Finding.the-variants.{Sound, Refused}
 use Rattle.table.specs.Refusal.{refusal}
 use Rattle.job_text.specs.Job.{Outcome, job, fault, readJob}
-use Rattle.hoa_writer.specs.Written.{hoaText}
-use Rattle.hoa_writer.specs.Writing.{mostBytes}
+use Rattle.hoa_written.specs.Written.{hoaText}
+use Rattle.hoa_written.specs.Writing.{mostBytes}
 use Rattle.job_text.specs.Asked.{jobTable}
 use Rattle.answer_text.specs.Printed.{refusedText}
 

@@ -1,24 +1,6 @@
--- Sigs: the marks of an edge
-pub mod Sigs
--- Formulas: the formula of a condition
-pub mod Formulas
--- Rows: the lines of a state
-pub mod Rows
 -- Writings: the lists of a table that is not refused, and the limits
 pub mod Writings
 -- Size: how long a text is at most
 pub mod Size
--- Spells: bytes that spell tokens
-pub mod Spells
--- Ints: the digits of a number spell it
-pub mod Ints
--- Words: the words, headers, signs and keys of a text
-pub mod Words
--- Tokens: the tokens of what is written
-pub mod Tokens
--- Back: what reading back rests on
-pub mod Back
 -- Unique: one result for one input
 pub mod Unique
--- Examples: some texts
-pub mod Examples

@@ -19,11 +19,11 @@ use Rattle.table.proofs.Sound.{Fit, sound-fit, used-few, rabin-few}
 use Rattle.puts.specs.Put.{decimal, held, joined}
 use Rattle.puts.proofs.Puts.{digits-few}
 use Rattle.hoa_tokens.specs.Bytes.{bytes}
-use Rattle.hoa_writer.specs.Written.{line, close, furtherInfs, buchiText, streettPair, furtherStreett, streettText, rabinPair, furtherRabin, rabinText, formula}
-use Rattle.hoa_writer.specs.Written.{markText, marksText, sigText, edgeText, leaving, rowText, rowsText, headText, acceptanceText, hoaText}
+use Rattle.hoa_written.specs.Written.{line, close, furtherInfs, buchiText, streettPair, furtherStreett, streettText, rabinPair, furtherRabin, rabinText, formula}
+use Rattle.hoa_written.specs.Written.{markText, marksText, sigText, edgeText, leaving, rowText, rowsText, headText, acceptanceText, hoaText}
 use Rattle.writing.proofs.Writings as writings
-use Rattle.hoa_writer.proofs.Formulas.{dealt-up}
-use Rattle.hoa_writer.specs.Writing.{mostWritten, mostWrittenEdges, mostBytes, tooLarge, writeRefusal}
+use Rattle.hoa_written.proofs.Formulas.{dealt-up}
+use Rattle.hoa_written.specs.Writing.{mostWritten, mostWrittenEdges, mostBytes, tooLarge, writeRefusal}
 use Rattle.hoa_writer.proofs.Writings.{not-large}
 
 -- ---- numbers

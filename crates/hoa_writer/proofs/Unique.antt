@@ -8,7 +8,7 @@ use Rattle.table.specs.declared.Acceptance.{Acceptance}
 use Rattle.table.specs.Table.{Table}
 use Rattle.writing.specs.declared.Written.{Written}
 use Rattle.writing.proofs.Writings.{given-once}
-use Rattle.hoa_writer.specs.Writing.{Writes}
+use Rattle.hoa_written.specs.Writing.{Writes}
 use Rattle.hoa_writer.proofs.write_hoa.Reads as write-hoa
 
 -- one answer

@@ -11,8 +11,8 @@ use Rattle.table.specs.declared.Finding.the-variants.{Sound}
 use Rattle.table.specs.Table.{Table, lent}
 use Rattle.table.specs.Refusal.{refusal, wrongCondition}
 use Rattle.table.proofs.Sound.{sound-fit}
-use Rattle.hoa_writer.specs.Writing.{mostWritten, mostWrittenEdges, tooLarge}
-use Rattle.hoa_writer.specs.inner.{Passed}
+use Rattle.hoa_written.specs.Writing.{mostWritten, mostWrittenEdges, tooLarge}
+use Rattle.hoa_put_rows.specs.inner.{Passed}
 
 -- ---- the lists of a table that is not refused
 

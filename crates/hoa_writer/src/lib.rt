@@ -1,18 +1,15 @@
 // The writer of the Hanoi format (docs/RULES.md, "The Hanoi format"): a table and its condition as a text in a lent buffer.
-// Relies on the crate `table` for rows 1 to 7 and on `puts` for bytes and numbers. What is written is in specs/Written.antt, what the
-// writer gives for every input in specs/Writing.antt.
-mod body;
-mod formula;
-
+// Relies on the crate `table` for rows 1 to 7, on `hoa_put_formula` and `hoa_put_rows` for the lines and on `puts` for bytes and numbers. What is written is in
+// hoa_written/specs/Written.antt, what the writer gives for every input in hoa_written/specs/Writing.antt.
 ghost use mathlib.Core.Path.{_≡_};
 ghost use mathlib.Core.Bool.{false};
 ghost use Prim.Native.Nat.{_≤_};
 ghost use Rattle.table.specs.Table.{lent};
 ghost use Rattle.table.specs.Refusal.{refusal, wrongCondition};
 ghost use Rattle.puts.specs.Put.{Put, PutFew};
-ghost use Rattle.hoa_writer.specs.Written.{hoaText, headText};
-ghost use Rattle.hoa_writer.specs.Writing.{Writes, mostWritten};
-ghost use Rattle.hoa_writer.specs.inner.{Passed};
+ghost use Rattle.hoa_written.specs.Written.{hoaText, headText};
+ghost use Rattle.hoa_written.specs.Writing.{Writes, mostWritten};
+ghost use Rattle.hoa_put_rows.specs.inner.{Passed};
 use table::Acceptance;
 use table::Finding;
 use writing::Written;
@@ -22,7 +19,7 @@ pub const MOST_STATES: u32 = 256;
 
 pub const MOST_EDGES: usize = 512;
 
-// An output of this many bytes is long enough for every text. specs/Writing.antt has the same number, as `mostBytes`.
+// An output of this many bytes is long enough for every text. hoa_written/specs/Writing.antt has the same number, as `mostBytes`.
 pub const MOST_BYTES: usize = 52205;
 
 // The lines before the condition's.
@@ -51,9 +48,9 @@ fn put_text(
     ensures { λ r. ⌜ Put (now (out .entry)) (now (out .exit)) 0 (hoaText (lent n start (now (from .entry)) (now (to .entry)) (now (marks .entry))) condition needs) r ⌝ }
 {
     let accepts = put_head(out, n, start);
-    let begin = formula::put_acceptance(out, accepts, condition, needs);
+    let begin = hoa_put_formula::put_acceptance(out, accepts, condition, needs);
     let rows = puts::put_word(out, begin, b"--BODY--\n");
-    let end = body::put_rows(out, rows, n, from, to, marks);
+    let end = hoa_put_rows::put_rows(out, rows, n, from, to, marks);
     puts::put_word(out, end, b"--END--\n")
 }
 

@@ -3,7 +3,8 @@ use mathlib.Core.Path.{_≡_, refl}
 use mathlib.Core.List.{[], _∷_}
 use Rattle.table.specs.Table.{lent}
 use Rattle.puts.specs.Put.{decimalIn, joined}
-use Rattle.job_writer.specs.Written.{hexByte, hexText, edgeText, headText, jobText}
+use Rattle.job_put_edges.specs.Edges.{hexByte, hexText, edgeText}
+use Rattle.job_writer.specs.Written.{headText, jobText}
 
 -- mark 0 alone
 one-mark : hexText 1 ≡ 48 ∷ 48 ∷ 48 ∷ 48 ∷ 48 ∷ 48 ∷ 48 ∷ 49 ∷ []

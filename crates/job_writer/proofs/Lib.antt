@@ -1,15 +1,9 @@
--- Decimals: the decimal digits of a number read back
-pub mod Decimals
--- Hex: the hex digits of a set of marks read back
-pub mod Hex
 -- Lines: what a line that was written says
 pub mod Lines
 -- Round: reading a text that was written gives the table back
 pub mod Round
 -- Lists: the lists of a table that is not refused, and the limits
 pub mod Lists
--- Pieces: an edge line in the pieces in which it is written
-pub mod Pieces
 -- Size: how long a text is at most
 pub mod Size
 -- Unique: one result for one input

@@ -11,8 +11,8 @@ use lib.Seq.{take-at}
 use borrow.Author.Tests.{eq-eqb, ne-eqb}
 use Rattle.job_text.specs.Text.{newline, comma, Lines, line, lines, longer, fields, longerField, same, begins}
 use Rattle.job_text.specs.Job.{Keyed, value, keyed, says, asked, found, Found, Reader, Line, goOn, next, placed, perhaps, leftOut, unlimited}
-use Rattle.job_writer.specs.Written.{shown}
-use Rattle.job_writer.proofs.Decimals.{Over}
+use Rattle.job_put_edges.specs.Edges.{shown}
+use Rattle.job_put_edges.proofs.Decimals.{Over}
 
 -- ---- cutting
 

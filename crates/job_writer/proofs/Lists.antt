@@ -13,7 +13,7 @@ use Rattle.table.specs.Refusal.{refusal}
 use Rattle.table.proofs.Sound.{either-false, sound-fit}
 use Rattle.job_text.specs.Job.{mostJobStates, mostJobEdges}
 use Rattle.job_writer.specs.Writing.{tooLarge}
-use Rattle.job_writer.specs.inner.{Passed}
+use Rattle.job_put_edges.specs.inner.{Passed}
 
 -- they are as the writer asks
 pub lists-passed : (n start : ℕ) (from to marks : List ℕ) → refusal (lent n start from to marks) (Buchi 1) [] ≡ Sound → length from ≤ mostJobEdges → Passed from to marks

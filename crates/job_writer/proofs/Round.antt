@@ -20,7 +20,8 @@ use Rattle.table.specs.declared.Acceptance.the-variants.{Buchi}
 use Rattle.table.specs.Table.{lent}
 use Rattle.job_text.specs.Job.{mostBytes, Job, jobLines, readJob, found, above, unlimited, asked, next, _>>=_, give}
 use Rattle.job_text.specs.Job.{formLine, kindLine, Head, countLines, headLines, edgeLines, endLines, bodyLines}
-use Rattle.job_writer.specs.Written.{hexText, shown, edgeText, edgesText, headText, jobText}
+use Rattle.job_put_edges.specs.Edges.{hexText, shown, edgeText, edgesText}
+use Rattle.job_writer.specs.Written.{headText, jobText}
 use Rattle.table.specs.declared.Finding.the-variants.{Sound}
 use Rattle.table.specs.Refusal.{refusal}
 use Rattle.table.proofs.Sound.{sound-fit}
@@ -30,8 +31,8 @@ use Rattle.job_writer.specs.Back.{ReadsBack}
 use Rattle.job_writer.specs.Writing.{tooLarge, writeRefusal, Writes}
 use Rattle.job_writer.proofs.Lists.{limits}
 use Rattle.job_writer.proofs.Size.{most-bytes}
-use Rattle.job_writer.proofs.Decimals.{Over, over-both, over?, over-test, digits-over, number-back}
-use Rattle.job_writer.proofs.Hex.{hex-over, hex-back}
+use Rattle.job_put_edges.proofs.Decimals.{Over, over-both, over?, over-test, digits-over, number-back}
+use Rattle.job_put_edges.proofs.Hex.{hex-over, hex-back}
 use Rattle.job_writer.proofs.Lines.{fields-field, fields-last, next-there, perhaps-there, then}
 
 -- ---- an edge line

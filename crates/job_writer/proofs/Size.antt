@@ -17,9 +17,10 @@ use Rattle.job_text.specs.Value.{buchi, dash, job}
 use Rattle.job_text.specs.Job.{mostJobStates, mostJobEdges, form=, states=, start=, kind=, count=, need=, edges=, edge=, end=}
 use Rattle.job_text.proofs.Text.{byTest}
 use Rattle.writing.proofs.Writings as writings
-use Rattle.job_writer.specs.Written.{hexText, shown, edgeText, edgesText, headText, jobText}
+use Rattle.job_put_edges.specs.Edges.{hexText, shown, edgeText, edgesText}
+use Rattle.job_writer.specs.Written.{headText, jobText}
 use Rattle.job_writer.specs.Writing.{mostBytes, tooLarge, writeRefusal}
-use Rattle.job_writer.proofs.Hex.{hex-length}
+use Rattle.job_put_edges.proofs.Hex.{hex-length}
 use Rattle.job_writer.proofs.Lists.{not-large, limits}
 
 -- ---- lines

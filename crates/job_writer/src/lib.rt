@@ -1,8 +1,7 @@
 // The writer of job texts (docs/RULES.md, "The job text and the printed answer", the writer): a table read as Büchi 1, which is what the translation
-// makes, as a job text in a lent buffer. Relies on the crate `table` for rows 1 to 7 and on `puts` for words and numbers. What is written is in
+// makes, as a job text in a lent buffer. Relies on the crate `table` for rows 1 to 7, on `job_put_edges` for the edge lines and on `puts` for words and numbers. What is written is in
 // specs/Written.antt, what the writer gives for every input in specs/Writing.antt; reading the text gives the table back: specs/Back.antt.
-mod edges;
-
+use job_put_edges::put_edges;
 use puts::clear;
 use puts::put_held;
 use puts::put_word;
@@ -16,7 +15,7 @@ ghost use Rattle.table.specs.Refusal.{refusal};
 ghost use Rattle.puts.specs.Put.{Put, PutFew};
 ghost use Rattle.job_writer.specs.Written.{headText, jobText};
 ghost use Rattle.job_writer.specs.Writing.{large, Writes};
-ghost use Rattle.job_writer.specs.inner.{Passed};
+ghost use Rattle.job_put_edges.specs.inner.{Passed};
 
 // The largest tables that are written: the job text's limits.
 const MOST_STATES: u32 = 256;
@@ -42,7 +41,7 @@ fn put_text(out: &mut [u8], n: u32, start: u32, from: &[u32], to: &[u32], marks:
 {
     let m = from.len() as u32;
     let begin = put_head(out, n, start, m);
-    let end = edges::put_edges(out, begin, from, to, marks);
+    let end = put_edges(out, begin, from, to, marks);
     put_word(out, end, b"end=job\n")
 }
 

@@ -15,8 +15,8 @@ use Rattle.hoa.specs.Returned.{ReadInto}
 use Rattle.writing.specs.declared.Written.{Written}
 use Rattle.writing.specs.declared.Written.the-variants as written
 use Rattle.writing.specs.Writing.{Gives}
-use Rattle.hoa_writer.specs.Written.{hoaText}
-use Rattle.hoa_writer.specs.Writing.{writeRefusal as hoaRefusal}
+use Rattle.hoa_written.specs.Written.{hoaText}
+use Rattle.hoa_written.specs.Writing.{writeRefusal as hoaRefusal}
 use Rattle.job_writer.specs.Written.{jobText}
 use Rattle.job_writer.specs.Writing.{writeRefusal as jobRefusal}
 use Rattle.mukhadero.specs.declared.hanoi.HoaNumbers.{HoaNumbers}

@@ -11,12 +11,12 @@ use Rattle.table.specs.Table.{Table, lent, borne}
 use Rattle.table.specs.Refusal.{refusal, mostStates, mostEdges, Proper}
 use Rattle.table.proofs.Rows.{sorted-far}
 use Rattle.table.proofs.Sound.{Fit, fit-sound}
-use Rattle.one_mark.specs.Climb.{levels, number, landing}
-use Rattle.one_mark.specs.Place.{rowStart, rowLength, leaves, stateAt, behind, levelAt, edgeAt}
-use Rattle.one_mark.specs.Translated.{lifted, liftedFrom, liftedTo, liftedMarks}
-use Rattle.one_mark.proofs.Climbs.{landing-below, bearing-below}
-use Rattle.one_mark.proofs.Numbers.{number-below, number-up, div-up}
-use Rattle.one_mark.proofs.Order.{sorted, whole-length}
+use Rattle.climbing.specs.Climb.{levels, number, landing}
+use Rattle.climbing.specs.Place.{rowStart, rowLength, leaves, stateAt, behind, levelAt, edgeAt}
+use Rattle.climbing.specs.Translated.{lifted, liftedFrom, liftedTo, liftedMarks}
+use Rattle.climbing.proofs.Climbs.{landing-below, bearing-below}
+use Rattle.climbing.proofs.Numbers.{number-below, number-up, div-up}
+use Rattle.climbing.proofs.Order.{sorted, whole-length}
 use Rattle.one_mark.proofs.Position.{stands, some-in-row, cell-at}
 
 module _ (t : Table) (proper : Proper t) (k : ℕ) where

@@ -17,12 +17,12 @@ use Rattle.table.proofs.Door.{CauseAt, refused-row}
 use Rattle.table.proofs.Sound.{Fit, sound-fit, used-few, either-false}
 use Rattle.one_mark.specs.declared.Translation.{Translation}
 use Rattle.one_mark.specs.declared.Translation.the-variants.{Made, Refused}
-use Rattle.one_mark.specs.Climb.{levels, number}
-use Rattle.one_mark.specs.Source.{source}
-use Rattle.one_mark.specs.Translated.{translated}
+use Rattle.climbing.specs.Climb.{levels, number}
+use Rattle.climbing.specs.Source.{source}
+use Rattle.climbing.specs.Translated.{translated}
 use Rattle.one_mark.specs.Outcome.{large, short, answer, numberOf, placeOf}
-use Rattle.one_mark.specs.Writing.{Ladder, Rising}
-use Rattle.one_mark.proofs.Looped.{source-states, source-start, source-edges, source-most}
+use Rattle.climbing.specs.inner.{Ladder, Rising}
+use Rattle.climbing.proofs.Looped.{source-states, source-start, source-edges, source-most}
 
 pub not-large : (states edges : ℕ) → large states edges ≡ false → states ≤ mostStates
 not-large states edges e = ltb-false mostStates states (either-false (ltb mostStates states) (ltb mostEdges edges) e .0)

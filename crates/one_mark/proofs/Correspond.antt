@@ -14,12 +14,12 @@ use borrow.Author.Tests.{eq-eqb, ne-eqb}
 use Rattle.table.specs.Table.{Table, waiting, Edge, Stop, Waits, Step, Walk, borne}
 use Rattle.table.specs.Refusal.{mostEdges, Proper}
 use Rattle.table.proofs.Walks.{proper-apart}
-use Rattle.one_mark.specs.Climb.{levels, number, landing, bearing}
-use Rattle.one_mark.specs.Place.{leaves, arrives, place, levelAt, edgeAt}
-use Rattle.one_mark.specs.Translated.{lifted, liftedFrom, liftedTo, liftedMarks}
-use Rattle.one_mark.proofs.Climbs.{landing-below, unmarked-stays}
-use Rattle.one_mark.proofs.Numbers.{number-below, number-same}
-use Rattle.one_mark.proofs.Order.{whole-length}
+use Rattle.climbing.specs.Climb.{levels, number, landing, bearing}
+use Rattle.climbing.specs.Place.{leaves, arrives, place, levelAt, edgeAt}
+use Rattle.climbing.specs.Translated.{lifted, liftedFrom, liftedTo, liftedMarks}
+use Rattle.climbing.proofs.Climbs.{landing-below, unmarked-stays}
+use Rattle.climbing.proofs.Numbers.{number-below, number-same}
+use Rattle.climbing.proofs.Order.{whole-length}
 use Rattle.one_mark.proofs.Position.{stands, place-most, edge-place, cell-place, cell-at}
 
 -- the edge under the lifted edge q, and the lifted edge over edge e, taken at level j

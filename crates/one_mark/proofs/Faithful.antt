@@ -9,18 +9,18 @@ use Rattle.table.specs.Table.{Table, lent}
 use Rattle.table.specs.Refusal.{mostEdges, Proper}
 use Rattle.one_mark.specs.declared.Translation.{Translation}
 use Rattle.one_mark.specs.declared.Translation.the-variants.{Made, Refused}
-use Rattle.one_mark.specs.Climb.{levels}
-use Rattle.one_mark.specs.Source.{source}
-use Rattle.one_mark.specs.Translated.{translated, liftedFrom, liftedTo, liftedMarks}
+use Rattle.climbing.specs.Climb.{levels}
+use Rattle.climbing.specs.Source.{source}
+use Rattle.climbing.specs.Translated.{translated, liftedFrom, liftedTo, liftedMarks}
 use Rattle.one_mark.specs.Outcome.{Outcome, answer, numberOf, placeOf, statesOf, edgesOf, startOf}
 use Rattle.one_mark.specs.Faithful.{Lifts, Positions, Stops, Faithful}
 use Rattle.one_mark.proofs.Accepted.{lent-again, lifted-sound}
 use Rattle.one_mark.proofs.Answers.{fit, granted, RefusedRow, refused-at}
 use Rattle.one_mark.proofs.Lassos.{one-over, one-under, lasso-down, lasso-up}
-use Rattle.one_mark.proofs.Order.{whole-length}
+use Rattle.climbing.proofs.Order.{whole-length}
 use Rattle.one_mark.proofs.Position.{stands, cell-at, place-most, level-place, edge-place}
 use Rattle.one_mark.proofs.Sources.{liftable, under-kept, under-stop, under-other, under-waiting, copies, stop-some}
-use Rattle.one_mark.proofs.StopStates.{stop-empty}
+use Rattle.climbing.proofs.StopStates.{stop-empty}
 
 -- ---- two results that the contract allows for one input are equal
 

@@ -9,9 +9,9 @@ use Rattle.marks.specs.Mark.{has}
 use Rattle.marks.proofs.Cases.{same, below}
 use Rattle.marks.proofs.Laws.{has-none, has-union}
 use Rattle.table.specs.Table.{Table, Walk, borne, marksOf}
-use Rattle.one_mark.specs.Climb.{levels, landing, bearing}
-use Rattle.one_mark.specs.Translated.{lifted}
-use Rattle.one_mark.proofs.Climbs.{lands, landing-below, reached-low, reached-passed, reached-moves}
+use Rattle.climbing.specs.Climb.{levels, landing, bearing}
+use Rattle.climbing.specs.Translated.{lifted}
+use Rattle.climbing.proofs.Climbs.{lands, landing-below, reached-low, reached-passed, reached-moves}
 use Rattle.one_mark.proofs.Correspond.{overEdge, levelAfter, over, Liftable, bears-over}
 
 -- how often the edges es, from level j, pass the top

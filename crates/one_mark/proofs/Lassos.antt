@@ -9,13 +9,13 @@ use Rattle.table.specs.declared.Acceptance.the-variants.{Buchi}
 use Rattle.table.specs.Table.{Table, Walk, marksOf}
 use Rattle.table.specs.Condition.{Accepted}
 use Rattle.table.specs.Refusal.{mostEdges, Proper}
-use Rattle.one_mark.specs.Climb.{levels, number}
-use Rattle.one_mark.specs.Source.{source, sourceEdge}
-use Rattle.one_mark.specs.Translated.{translated, under}
+use Rattle.climbing.specs.Climb.{levels, number}
+use Rattle.climbing.specs.Source.{source, sourceEdge}
+use Rattle.climbing.specs.Translated.{translated, under}
 use Rattle.one_mark.specs.Over.{OneOver, OneUnder, turns, Closes}
 use Rattle.one_mark.proofs.Correspond.{underEdge, levelAfter, over, Liftable, walk-up, unders-over, over-length, walk-down}
 use Rattle.one_mark.proofs.Turns as lifting
-use Rattle.one_mark.proofs.Looped.{source-start}
+use Rattle.climbing.proofs.Looped.{source-start}
 use Rattle.one_mark.proofs.Sources.{liftable, forth, next, step-next, step-forth, back-forth, step-back, forth-back, under-source}
 
 -- ---- lists

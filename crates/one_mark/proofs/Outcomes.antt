@@ -10,15 +10,16 @@ use Rattle.table.specs.Table.{Table, lent}
 use Rattle.table.specs.Refusal.{mostStates, mostEdges, Proper}
 use Rattle.one_mark.specs.declared.Translation.{Translation}
 use Rattle.one_mark.specs.declared.Translation.the-variants.{Made, Refused}
-use Rattle.one_mark.specs.Climb.{levels}
-use Rattle.one_mark.specs.Source.{source}
-use Rattle.one_mark.specs.Translated.{lifted, translated, liftedFrom, liftedTo, liftedMarks}
-use Rattle.one_mark.specs.Outcome.{Outcome, Ready, Filled, answer, edgesOf}
-use Rattle.one_mark.specs.Writing.{Room, StatesWritten}
+use Rattle.climbing.specs.Climb.{levels}
+use Rattle.climbing.specs.Source.{source}
+use Rattle.climbing.specs.Translated.{lifted, translated, liftedFrom, liftedTo, liftedMarks}
+use Rattle.one_mark.specs.Outcome.{Outcome, answer, edgesOf}
+use Rattle.one_mark.specs.inner.{Ready, Filled}
+use Rattle.lifting.specs.inner.{Room, StatesWritten}
 use Rattle.one_mark.proofs.Answers.{granted, fit, ladder}
-use Rattle.one_mark.proofs.Lists.{sets-append, sets-whole}
-use Rattle.one_mark.proofs.Looped.{source-states, source-edges}
-use Rattle.one_mark.proofs.Order.{whole-length}
+use Rattle.climbing.proofs.Lists.{sets-append, sets-whole}
+use Rattle.climbing.proofs.Looped.{source-states, source-edges}
+use Rattle.climbing.proofs.Order.{whole-length}
 
 -- ---- the lists, then zeros
 

@@ -6,7 +6,7 @@ use native.Mathlib.Omega.{arith}
 use lib.Dec.{eqb}
 use borrow.Author.Tests.{eq-eqb, ne-eqb}
 use Rattle.marks.proofs.Cases.{same}
-use Rattle.one_mark.specs.Climb.{choose}
+use Rattle.climbing.specs.Climb.{choose}
 
 -- f takes one value at u and at v, of the places up to n
 pub record Twice (f : ℕ → ℕ) (n : ℕ) : Type 0 where

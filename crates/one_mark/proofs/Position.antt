@@ -9,10 +9,10 @@ use lib.ListN.{getD}
 use Rattle.marks.proofs.Cases.{below}
 use Rattle.table.specs.Table.{Table}
 use Rattle.table.specs.Refusal.{Proper}
-use Rattle.one_mark.specs.Climb.{levels}
-use Rattle.one_mark.specs.Place.{rowStart, rowLength, inOrder, leaves, place, stateAt, behind, levelAt, edgeAt}
-use Rattle.one_mark.proofs.Numbers.{one-level}
-use Rattle.one_mark.proofs.Order.{table-row, order-cell, front-up}
+use Rattle.climbing.specs.Climb.{levels}
+use Rattle.climbing.specs.Place.{rowStart, rowLength, inOrder, leaves, place, stateAt, behind, levelAt, edgeAt}
+use Rattle.climbing.proofs.Numbers.{one-level}
+use Rattle.climbing.proofs.Order.{table-row, order-cell, front-up}
 
 -- position q is that of edge e, taken at level j
 pub record Stands (t : Table) (k q j e : ℕ) : Type 0 where

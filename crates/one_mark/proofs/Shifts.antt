@@ -2,7 +2,7 @@
 -- states. Assumes nothing.
 use mathlib.Core.Path.{refl}
 use Rattle.table.proofs.Shifts.{shift-cases}
-use Rattle.one_mark.specs.Climb.{reached, landing, bearing}
+use Rattle.climbing.specs.Climb.{reached, landing, bearing}
 use Rattle.one_mark.specs.Shifts.{FourteenCases, HaltingCases}
 
 pub fourteen-cases : FourteenCases

@@ -10,14 +10,14 @@ use lib.ListN.{getD}
 use borrow.Author.Tests.{eq-eqb, ne-eqb}
 use Rattle.table.specs.Table.{Table, waiting, Edge, Stop, Waits, Step}
 use Rattle.table.specs.Refusal.{mostEdges, Proper}
-use Rattle.one_mark.specs.Climb.{levels, number}
-use Rattle.one_mark.specs.Place.{rowLength, leaves, arrives, edgeAt}
-use Rattle.one_mark.specs.Source.{stops, looped, unlooped, source, sourceEdge}
-use Rattle.one_mark.specs.Translated.{liftedFrom, translated, under}
+use Rattle.climbing.specs.Climb.{levels, number}
+use Rattle.climbing.specs.Place.{rowLength, leaves, arrives, edgeAt}
+use Rattle.climbing.specs.Source.{stops, looped, unlooped, source, sourceEdge}
+use Rattle.climbing.specs.Translated.{liftedFrom, translated, under}
 use Rattle.one_mark.proofs.Correspond.{underEdge, Liftable, stop-up, stop-down, stop-below}
 use Rattle.one_mark.proofs.Position.{stands, cell-at, edge-plain}
-use Rattle.one_mark.proofs.StopStates.{stop-none, none-stop}
-use Rattle.one_mark.proofs.Looped.{looped-proper, none-stops}
+use Rattle.climbing.proofs.StopStates.{stop-none, none-stop}
+use Rattle.climbing.proofs.Looped.{looped-proper, none-stops}
 use Rattle.one_mark.proofs.Waiting.{stop-source, other-source, withLoops, loops-forth, source-back, loops-back}
 
 -- ---- the table that is lifted

@@ -12,12 +12,12 @@ use Rattle.table.specs.declared.Acceptance.the-variants.{Buchi}
 use Rattle.table.specs.Table.{Table, Walk, marksOf}
 use Rattle.table.specs.Condition.{Accepted}
 use Rattle.table.proofs.Walks.{walk-append, marks-grow}
-use Rattle.one_mark.specs.Climb.{levels, number}
-use Rattle.one_mark.specs.Translated.{lifted}
+use Rattle.climbing.specs.Climb.{levels, number}
+use Rattle.climbing.specs.Translated.{lifted}
 use Rattle.one_mark.specs.Over.{turns}
 use Rattle.one_mark.proofs.Correspond.{underEdge, levelAfter, over, level-below, level-append, Liftable, walk-up, unders-over, over-length, walk-down}
 use Rattle.one_mark.proofs.Laps.{tops, topped, turn-tops, marked-tops, tops-marked}
-use Rattle.one_mark.proofs.Numbers.{number-same}
+use Rattle.climbing.proofs.Numbers.{number-same}
 use Rattle.one_mark.proofs.Pigeon.{twice}
 
 -- ---- turns

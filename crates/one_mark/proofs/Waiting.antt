@@ -8,11 +8,11 @@ use lib.Dec.{eqb}
 use borrow.Author.Tests.{eq-eqb, ne-eqb}
 use Rattle.table.specs.Table.{Table, waiting, Edge, Waits, Step}
 use Rattle.table.specs.Refusal.{Proper}
-use Rattle.one_mark.specs.Place.{rowStart, rowLength, leaves, arrives}
-use Rattle.one_mark.specs.Source.{halts, stops, looped, unlooped}
-use Rattle.one_mark.proofs.Order.{rows-end}
-use Rattle.one_mark.proofs.StopStates.{row-edge, in-row, stop-none, none-stop}
-use Rattle.one_mark.proofs.Looped.{begin, begin-next, begin-up, by-row, own-cell, loop-cell, from-state, find}
+use Rattle.climbing.specs.Place.{rowStart, rowLength, leaves, arrives}
+use Rattle.climbing.specs.Source.{halts, stops, looped, unlooped}
+use Rattle.climbing.proofs.Order.{rows-end}
+use Rattle.climbing.proofs.StopStates.{row-edge, in-row, stop-none, none-stop}
+use Rattle.climbing.proofs.Looped.{begin, begin-next, begin-up, by-row, own-cell, loop-cell, from-state, find}
 
 -- ---- its edges are those of t and the waiting edges
 

@@ -9,10 +9,10 @@ use Rattle.table.specs.declared.Finding.the-variants.{Sound}
 use Rattle.table.specs.Table.{Table, waiting, Stop, Walk, borne}
 use Rattle.table.specs.Condition.{Accepted}
 use Rattle.table.specs.Refusal.{refusal}
-use Rattle.one_mark.specs.Climb.{levels, number}
-use Rattle.one_mark.specs.Place.{rowLength, place, levelAt, edgeAt}
-use Rattle.one_mark.specs.Source.{stops, source}
-use Rattle.one_mark.specs.Translated.{lifted, translated, liftedFrom, liftedTo, liftedMarks, under}
+use Rattle.climbing.specs.Climb.{levels, number}
+use Rattle.climbing.specs.Place.{rowLength, place, levelAt, edgeAt}
+use Rattle.climbing.specs.Source.{stops, source}
+use Rattle.climbing.specs.Translated.{lifted, translated, liftedFrom, liftedTo, liftedMarks, under}
 use Rattle.one_mark.specs.Over.{OneOver, OneUnder, Closes}
 
 -- the table t, lifted: the edge and the level follow from the position, and the position from them

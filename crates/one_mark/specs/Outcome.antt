@@ -3,19 +3,17 @@
 use mathlib.Core.Path.{_≡_}
 use mathlib.Core.Bool.{Bool, _||_, cond}
 use mathlib.Core.List.{List, [], _++_}
-use Prim.Native.Nat.{ℕ, _-_, _*_, _≤_}
+use Prim.Native.Nat.{ℕ, _-_}
 use lib.Dec.{ltb}
 use lib.ListN.{length, replicate}
 use Rattle.table.specs.declared.Acceptance.the-variants.{Buchi}
 use Rattle.table.specs.declared.Finding.{Finding}
 use Rattle.table.specs.declared.Finding.the-variants.{Sound, Refused as Faulty}
-use Rattle.table.specs.Table.{Table, lent}
-use Rattle.table.specs.Refusal.{refusal, mostStates, mostEdges, Proper}
+use Rattle.table.specs.Table.{Table}
+use Rattle.table.specs.Refusal.{refusal, mostStates, mostEdges}
 use Rattle.one_mark.specs.declared.Translation.{Translation}
 use Rattle.one_mark.specs.declared.Translation.the-variants.{Made, Refused}
-use Rattle.one_mark.specs.Source.{source}
-use Rattle.one_mark.specs.Translated.{translated}
-use Rattle.one_mark.specs.Writing.{Ladder, Room}
+use Rattle.climbing.specs.Translated.{translated}
 
 -- row 10: a table to be made is above 4,096 states or 32,768 edges
 abbrev pub large : ℕ → ℕ → Bool
@@ -49,21 +47,6 @@ pub record Outcome (t : Table) (k : ℕ) (leaves arrives bears : List ℕ) (r : 
   pub from-held : leaves' ≡ held r (translated t k .from) leaves
   pub to-held : arrives' ≡ held r (translated t k .to) arrives
   pub marks-held : bears' ≡ held r (translated t k .marks) bears
-
--- ---- between the functions: what the writing of a table that was not refused goes by, and what it leaves
-
-pub record Ready (n k K edges : ℕ) (from to marks leaves arrives bears : List ℕ) : Type 0 where
-  pub ladder : Ladder n k K
-  pub proper : Proper (lent n 0 from to marks)
-  pub count : edges ≡ source (lent n 0 from to marks) k .edges * K
-  pub few-edges : edges ≤ mostEdges
-  pub room : Room 0 edges leaves arrives bears
-
--- the lists of the table that was made, then zeros
-pub record Filled (made : Table) (leaves arrives bears leaves' arrives' bears' : List ℕ) : Type 0 where
-  pub from-filled : leaves' ≡ made .from ++ replicate (length leaves - length (made .from)) 0
-  pub to-filled : arrives' ≡ made .to ++ replicate (length arrives - length (made .to)) 0
-  pub marks-filled : bears' ≡ made .marks ++ replicate (length bears - length (made .marks)) 0
 
 -- ---- the rules' number, place, counts and new start for each answer. The number is 0 exactly if a table was made (`Faithful.outputs-hold` and
 -- `Faithful.refused-untouched`, in proofs/, go by it)

@@ -7,8 +7,8 @@ use lib.ListN.{length}
 use Rattle.table.specs.declared.Acceptance.the-variants.{Buchi}
 use Rattle.table.specs.Table.{Table, Walk}
 use Rattle.table.specs.Condition.{Accepted}
-use Rattle.one_mark.specs.Climb.{levels}
-use Rattle.one_mark.specs.Translated.{translated, under}
+use Rattle.climbing.specs.Climb.{levels}
+use Rattle.climbing.specs.Translated.{translated, under}
 
 -- the translated edges qs lie over the edges es
 abbrev pub Over : Table → ℕ → List ℕ → List ℕ → Type 0

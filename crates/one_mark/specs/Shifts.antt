@@ -4,7 +4,7 @@ use mathlib.Core.Path.{_≡_}
 use mathlib.Core.List.{[], _∷_}
 use Rattle.table.specs.Table.{Table, lent}
 use Rattle.table.specs.Shifts.{ShiftCases, tableA}
-use Rattle.one_mark.specs.Translated.{translated}
+use Rattle.climbing.specs.Translated.{translated}
 
 -- 0>2{}, 1>3{}, 2>5{}, 3>5{}, 4>2{}, 5>2{0}
 abbrev pub translatedA : Table

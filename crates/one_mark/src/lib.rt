@@ -1,15 +1,12 @@
 // The one-mark translation (docs/RULES.md, "One-mark translation"): a table with k marks, read as Büchi k, becomes one with one mark, read as
 // Büchi 1, whose accepted lassos lie over those of the first. With k = 0 each stop state gets a marked loop; else its copies wait as it does.
-// Relies on `table` for rows 1 to 7 and for the rows of a table.
-mod lift;
-mod stops;
-
-use lift::Shape;
-use lift::level_count;
-use lift::lift_table;
-use lift::number_of;
+// Relies on `table` for rows 1 to 7, on `climbing` for counts and numbers and for what the translated table is (climbing/specs/), on `lifting` for the writing.
+use climbing::levels::Shape;
+use climbing::levels::level_count;
+use climbing::levels::number_of;
+use climbing::stops::source_count;
+use lifting::lift_table;
 use marks::Marks;
-use stops::source_count;
 use table::Acceptance;
 use table::Finding;
 use table::MOST_EDGES;
@@ -19,8 +16,9 @@ ghost use Prim.Native.Nat.{_-_, _≤_};
 ghost use lib.ListN.{length, replicate};
 ghost use lib.Seq.{sets};
 ghost use Rattle.table.specs.Table.{lent};
-ghost use Rattle.one_mark.specs.Translated.{translated};
-ghost use Rattle.one_mark.specs.Outcome.{Outcome, Ready, Filled, answer, large, short};
+ghost use Rattle.climbing.specs.Translated.{translated};
+ghost use Rattle.one_mark.specs.Outcome.{Outcome, answer, large, short};
+ghost use Rattle.one_mark.specs.inner.{Ready, Filled};
 
 // What the translation answers: both counts and the new start, or why it refuses, with number and place.
 pub enum Translation {

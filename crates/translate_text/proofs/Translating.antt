@@ -17,7 +17,7 @@ use Rattle.table.specs.Refusal.{refusal, mostStates, mostEdges}
 use Rattle.table.proofs.Sound.{either-false}
 use Rattle.one_mark.specs.declared.Translation.{Translation}
 use Rattle.one_mark.specs.declared.Translation.the-variants as translation
-use Rattle.one_mark.specs.Translated.{translated}
+use Rattle.climbing.specs.Translated.{translated}
 use Rattle.one_mark.specs.Outcome.{large, short, unless, answer, statesOf, edgesOf, startOf, numberOf, Outcome}
 use Rattle.one_mark.proofs.Answers.{granted}
 use Rattle.one_mark.proofs.Faithful.{faithful, outputs-hold}

@@ -9,7 +9,7 @@ use Rattle.table.specs.declared.Finding.{Finding}
 use Rattle.table.specs.declared.Finding.the-variants.{Sound, Refused}
 use Rattle.table.specs.Table.{Table}
 use Rattle.table.specs.Refusal.{refusal}
-use Rattle.one_mark.specs.Translated.{translated}
+use Rattle.climbing.specs.Translated.{translated}
 use Rattle.one_mark.specs.Outcome.{large}
 use Rattle.job_text.specs.Job.{Job, Outcome, job, fault, readJob}
 use Rattle.job_text.specs.Asked.{jobTable}

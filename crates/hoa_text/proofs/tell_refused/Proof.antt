@@ -5,7 +5,7 @@ use native.Mathlib.Omega.{arith}
 use lib.ListN.{length}
 use denote.Ref.{now}
 use Rattle.answer_text.proofs.Refusals.{refused-few, never-refused}
-use Rattle.hoa_writer.specs.Writing.{mostBytes}
+use Rattle.hoa_written.specs.Writing.{mostBytes}
 use Rattle.hoa_text.proofs.Turning.{stands-whole}
 use borrow.Author.Needs.{needs}
 use Rattle.hoa_text.proofs.tell_refused.Statement.{statement}

@@ -1,6 +1,6 @@
 -- `put_head` meets its contract: the lines one after another; the first two begin in one key. Assumes nothing.
 use Rattle.hoa_tokens.specs.Bytes.{bytes}
-use Rattle.hoa_writer.specs.Written.{headText}
+use Rattle.hoa_written.specs.Written.{headText}
 use Rattle.puts.proofs.Few.{few-both, few-word}
 use native.Mathlib.Omega.{arith}
 use borrow.Author.Needs.{needs}

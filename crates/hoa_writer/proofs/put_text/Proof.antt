@@ -1,6 +1,6 @@
 -- `put_text` meets its contract: its parts, one after another. Assumes nothing.
 use Rattle.hoa_tokens.specs.Bytes.{bytes}
-use Rattle.hoa_writer.specs.Written.{hoaText}
+use Rattle.hoa_written.specs.Written.{hoaText}
 use Rattle.puts.proofs.Puts.{put-both}
 use borrow.Author.Needs.{needs}
 use Rattle.hoa_writer.proofs.put_text.Statement.{statement}

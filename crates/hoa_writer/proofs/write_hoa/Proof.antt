@@ -5,8 +5,8 @@ use Rattle.table.specs.declared.Finding.the-variants.{Sound}
 use Rattle.table.specs.Table.{lent}
 use Rattle.table.specs.Refusal.{refusal}
 use Rattle.writing.proofs.Writings.{refused-row}
-use Rattle.hoa_writer.specs.Written.{hoaText}
-use Rattle.hoa_writer.specs.Writing.{tooLarge}
+use Rattle.hoa_written.specs.Written.{hoaText}
+use Rattle.hoa_written.specs.Writing.{tooLarge}
 use borrow.Author.Needs.{needs}
 use Rattle.hoa_writer.proofs.write_hoa.Statement.{statement}
 use Rattle.hoa_writer.proofs.write_hoa.Tie as tie

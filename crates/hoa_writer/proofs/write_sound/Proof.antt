@@ -4,8 +4,8 @@ use denote.Ref.{now}
 use Rattle.table.specs.Table.{lent}
 use Rattle.table.specs.Refusal.{refusal}
 use Rattle.writing.proofs.Writings.{refused-large, refused-short, given-text}
-use Rattle.hoa_writer.specs.Written.{hoaText}
-use Rattle.hoa_writer.specs.Writing.{tooLarge}
+use Rattle.hoa_written.specs.Written.{hoaText}
+use Rattle.hoa_written.specs.Writing.{tooLarge}
 use Rattle.hoa_writer.proofs.Writings.{lists-passed, permitted, many-states, many-edges, not-large}
 use native.Mathlib.Omega.{arith}
 use borrow.Author.Needs.{needs}

@@ -3,8 +3,8 @@ use mathlib.Core.Path.{_≡_, _∙_}
 use Prim.Native.Nat.{_-_, _≤_}
 use lib.ListN.{length, length-set}
 use lib.Seq.{sets}
-use Rattle.one_mark.specs.Place.{cells}
-use Rattle.one_mark.proofs.Lists.{sets-more, cells-zero}
+use Rattle.climbing.specs.Place.{cells}
+use Rattle.climbing.proofs.Lists.{sets-more, cells-zero}
 use borrow.Author.Needs.{needs}
 use native.Mathlib.Omega.{arith}
 use Rattle.one_mark.proofs.clear.Statement.{statement}

@@ -2,8 +2,8 @@
 use mathlib.Core.Path.{_∙_}
 use borrow.Author.Needs.{needs}
 use Rattle.table.specs.Table.{lent}
-use Rattle.one_mark.specs.Source.{source}
-use Rattle.one_mark.proofs.Looped.{source-proper}
+use Rattle.climbing.specs.Source.{source}
+use Rattle.climbing.proofs.Looped.{source-proper}
 use Rattle.one_mark.proofs.Outcomes.{fewer, filled, all-states}
 use Rattle.one_mark.proofs.fill.Statement.{statement}
 use Rattle.one_mark.proofs.fill.Tie as tie

@@ -10,8 +10,8 @@ use Rattle.table.specs.declared.Finding.the-variants.{Sound}
 use Rattle.table.specs.Table.{Table, lent}
 use Rattle.table.specs.Refusal.{refusal, mostStates, mostEdges}
 use Rattle.marks.specs.Mark.{width}
-use Rattle.one_mark.specs.Source.{source}
-use Rattle.one_mark.specs.Translated.{translated}
+use Rattle.climbing.specs.Source.{source}
+use Rattle.climbing.specs.Translated.{translated}
 use Rattle.one_mark.proofs.Answers.{Counts, counts, answer-faulty, answer-large, answer-short, answer-made, not-large, ladder, counts-fit, start-below, rising}
 use Rattle.one_mark.specs.Outcome.{large, short}
 use Rattle.one_mark.proofs.foresee.Statement.{statement}

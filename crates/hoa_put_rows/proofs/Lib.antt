@@ -1,0 +1,2 @@
+-- Rows: the lines of a state
+pub mod Rows

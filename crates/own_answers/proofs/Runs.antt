@@ -45,7 +45,8 @@ no-pair t (Streett p) needs cycle pair e f = e
 no-pair t (Rabin p) needs cycle pair l f = absurd (false≢true (sym f))
 
 -- the named pair is met
-pub named-met : (t : Table) (c : Acceptance) (needs cycle : List ℕ) (pair : ℕ) → Accepts c needs (marksOf t cycle) → Named t c needs cycle pair → Meets c needs (marksOf t cycle) pair
+pub named-met : (t : Table) (c : Acceptance) (needs cycle : List ℕ) (pair : ℕ) → Accepts c needs (marksOf t cycle) → Named t c needs cycle pair
+    → Meets c needs (marksOf t cycle) pair
 named-met t (Buchi k) needs cycle pair a e = a
 named-met t (Streett p) needs cycle pair a e = a
 named-met t (Rabin p) needs cycle pair a l = (l .below, l .met)

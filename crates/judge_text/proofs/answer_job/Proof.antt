@@ -1,4 +1,5 @@
 -- `answer_job` meets its contract: what the judge answers on a table within a job's limits fits (`judged-fits`), so all of it is printed. Assumes nothing.
+use native.Mathlib.Omega.{arith}
 use borrow.Author.Needs.{needs}
 use denote.Ref.{now}
 use Rattle.judge_text.proofs.Telling.{judged-fits}

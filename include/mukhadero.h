@@ -27,9 +27,9 @@
 #include <stdint.h>
 
 /* The version of this header; mukhadero_version() gives that of the archive. They must be equal. */
-#define MUKHADERO_VERSION_STRING "1.2.0"
+#define MUKHADERO_VERSION_STRING "1.3.0"
 #define MUKHADERO_VERSION_MAJOR  1
-#define MUKHADERO_VERSION_MINOR  2
+#define MUKHADERO_VERSION_MINOR  3
 #define MUKHADERO_VERSION_PATCH  0
 #define MUKHADERO_VERSION (10000 * MUKHADERO_VERSION_MAJOR + 100 * MUKHADERO_VERSION_MINOR + MUKHADERO_VERSION_PATCH)
 
@@ -114,6 +114,7 @@ typedef struct mukhadero_answer {
     uint32_t pair;          /* Rabin run: the lowest pair that some lasso meets; this lasso meets it */
     uint32_t prefix_length; /* run: room[0 .. prefix_length) are the edges of the prefix; at most n-1 */
     uint32_t cycle_length;  /* run: room[prefix_length .. prefix_length + cycle_length) are those of the cycle; at most (r+1)*n */
+    uint32_t depth;         /* Streett, empty: how deep the erasing went, the deepest level of the erasing tree; 1 to p */
 } mukhadero_answer;
 
 /* The translation's answer. All but number and place are 0 if it was refused. */

@@ -24,10 +24,11 @@ use Rattle.answer_check.specs.declared.walk.Went.the-variants as went
 use Rattle.answer_check.specs.declared.walk.Walked.{Walked}
 use Rattle.answer_check.specs.declared.walk.Walked.the-variants as walked
 use Rattle.answer_check.specs.Fault.{Breaks}
-use Rattle.answer_check.specs.inner.{step, steps, LeftBy, Lies, Stands, Goes, WentSays, WaitSays, GoSays, Through, WalkedSays, WalkSays}
-use Rattle.answer_check.proofs.Digits.{none-some, some-same}
-use Rattle.answer_check.proofs.Lists.{Stepped, stepped, no-steps}
-use Rattle.answer_check.proofs.Forms.{left-all, left-none}
+use Rattle.answer_form.specs.Given.{step, steps}
+use Rattle.answer_check.specs.inner.{LeftBy, Lies, Stands, Goes, WentSays, WaitSays, GoSays, Through, WalkedSays, WalkSays}
+use Rattle.answer_form.proofs.Digits.{none-some, some-same}
+use Rattle.answer_form.proofs.Lists.{Stepped, stepped, no-steps}
+use Rattle.answer_form.proofs.Forms.{left-all, left-none}
 
 -- ---- the union of marks
 

@@ -17,7 +17,8 @@ use Rattle.answer_check.specs.declared.walk.Walked.{Walked}
 use Rattle.answer_check.specs.declared.lasso.Turned.the-variants as turned
 use Rattle.answer_check.specs.declared.lasso.Turned.{Turned}
 use Rattle.answer_check.specs.Fault.{Breaks, Meets, Judged}
-use Rattle.answer_check.specs.inner.{listGiven, Lies, Named, KnotSays, Through, WalkedSays, WalkSays, Closes, TurnedSays}
+use Rattle.answer_form.specs.Given.{listGiven}
+use Rattle.answer_check.specs.inner.{Lies, Named, KnotSays, Through, WalkedSays, WalkSays, Closes, TurnedSays}
 use Rattle.answer_check.proofs.Conditions.{not-so}
 
 no-edges : (es : List ℕ) → length es ≡ 0 → es ≡ []

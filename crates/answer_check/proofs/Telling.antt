@@ -22,13 +22,14 @@ use Rattle.job_text.proofs.Tables.{unlike, part-is}
 use Rattle.answer_text.specs.Printed.{isRabin}
 use Rattle.answer_check.specs.declared.Checked.{Checked}
 use Rattle.answer_check.specs.declared.Checked.the-variants as checked
-use Rattle.answer_check.specs.declared.form.Form.{Form}
-use Rattle.answer_check.specs.declared.form.Form.the-variants as form
-use Rattle.answer_check.specs.Form.{run}
+use Rattle.answer_form.specs.declared.Form.{Form}
+use Rattle.answer_form.specs.declared.Form.the-variants as form
+use Rattle.answer_form.specs.Form.{run}
 use Rattle.answer_check.specs.Fault.{Judged}
 use Rattle.answer_check.specs.Checking.{Told, malformed, no-run, run-judged, ByCause, ByJob, Checks}
-use Rattle.answer_check.specs.inner.{given, RunAt, OtherSaid, FormOf, Lies, Named}
-use Rattle.answer_check.proofs.Inverse.{given-says, malformed as not-read}
+use Rattle.answer_form.specs.Given.{given, RunAt, OtherSaid, FormOf}
+use Rattle.answer_check.specs.inner.{Lies, Named}
+use Rattle.answer_form.proofs.Inverse.{given-says, malformed as not-read}
 
 -- ---- by the text's form
 

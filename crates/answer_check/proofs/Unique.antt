@@ -19,10 +19,10 @@ use Rattle.job_text.specs.Asked.{jobTable, firstCause}
 use Rattle.answer_check.specs.declared.Checked.{Checked}
 use Rattle.answer_check.specs.declared.Checked.the-variants as checked
 use Rattle.answer_check.specs.declared.Fault.the-variants as fault
-use Rattle.answer_check.specs.Form.{Said, run, Says, Malformed, NoRun}
+use Rattle.answer_form.specs.Form.{Said, run, Says, Malformed, NoRun}
 use Rattle.answer_check.specs.Fault.{Breaks, Open, BadCycle, NoCycle, Meets, Unmet, Holds, Judged}
 use Rattle.answer_check.specs.Checking.{RunJudged, Told, malformed, no-run, run-judged, ByCause, ByJob, Checks, NamesAccepted}
-use Rattle.answer_check.proofs.Inverse.{one-said}
+use Rattle.answer_form.proofs.Inverse.{one-said}
 
 -- ---- a step leads to one state, and so does a walk
 

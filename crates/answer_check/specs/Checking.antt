@@ -11,7 +11,7 @@ use Rattle.job_text.specs.Job.{Job, Outcome, job, fault, readJob}
 use Rattle.job_text.specs.Asked.{jobTable, firstCause}
 use Rattle.answer_check.specs.declared.Checked.{Checked}
 use Rattle.answer_check.specs.declared.Checked.the-variants as checked
-use Rattle.answer_check.specs.Form.{run, Says, Malformed, NoRun}
+use Rattle.answer_form.specs.Form.{run, Says, Malformed, NoRun}
 use Rattle.answer_check.specs.Fault.{Meets, Judged}
 
 -- the text names a run, and this is what becomes of it

@@ -1,5 +1,3 @@
--- Form: which answer texts are well formed, and what each says
-pub mod Form
 -- Fault: the first fault of a run that a text names
 pub mod Fault
 -- Checking: what `check_answer` gives, the whole promise

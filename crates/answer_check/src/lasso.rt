@@ -5,7 +5,8 @@ use crate::walk::walk;
 ghost use mathlib.Core.Path.{_≡_};
 ghost use mathlib.Core.Option.{some};
 ghost use Rattle.table.specs.inner.Looks.{Even};
-ghost use Rattle.answer_check.specs.inner.{listGiven, Lies, Through, Named, KnotSays, TurnedSays};
+ghost use Rattle.answer_form.specs.Given.{listGiven};
+ghost use Rattle.answer_check.specs.inner.{Lies, Through, Named, KnotSays, TurnedSays};
 
 // A closed cycle with the marks on it, or the first fault and its position.
 pub(crate) enum Turned {

@@ -1,16 +1,16 @@
 // The checker of answers (docs/RULES.md, "An answer that is checked"): whether an answer text names an accepted lasso of a job's table, and if not, the first
-// fault. Nothing is searched and nothing stored: the answer's bytes are read once for their form and once along the edges. Relies on `job_text` for the job and on
-// `table` for rows 1 to 7. What is well formed is in specs/Form.antt, what the faults are in specs/Fault.antt, the whole promise in specs/Checking.antt.
+// fault. Nothing is searched and nothing stored: the answer's bytes are read once for their form and once along the edges. Relies on `job_text` for the job, on
+// `table` for rows 1 to 7 and on `answer_form` for the form. What is well formed is in answer_form's specs/Form.antt, what the faults are in specs/Fault.antt, the
+// whole promise in specs/Checking.antt.
 mod condition;
-mod form;
 mod lasso;
 mod walk;
 
 use crate::condition::meets;
-use crate::form::Form;
-use crate::form::read_answer;
 use crate::lasso::Turned;
 use crate::lasso::check_lasso;
+use answer_form::Form;
+use answer_form::read_answer;
 use answer_text::is_rabin;
 use job_text::reader::read;
 use table::Acceptance;

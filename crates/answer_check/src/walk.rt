@@ -1,7 +1,7 @@
 // Walking a list of edges from its bytes, edge by edge, up to its end or to the first edge that leads nowhere. The first `stop` at a state looks through the
-// from states once; from then on the walk waits there. Relies on `form` for the edges and on `marks` for their union.
-use crate::form::WAITING;
-use crate::form::read_step;
+// from states once; from then on the walk waits there. Relies on `answer_form` for the edges and on `marks` for their union.
+use answer_form::WAITING;
+use answer_form::read_step;
 use job_text::part::alike;
 use job_text::part::find;
 use job_text::value::Number;
@@ -9,7 +9,8 @@ ghost use mathlib.Core.Path.{_≡_};
 ghost use Rattle.table.specs.Table.{waiting};
 ghost use Rattle.table.specs.inner.Looks.{Even};
 ghost use Rattle.job_text.specs.Text.{fields};
-ghost use Rattle.answer_check.specs.inner.{steps, listGiven, LeftBy, WaitSays, GoSays, WalkSays};
+ghost use Rattle.answer_form.specs.Given.{steps, listGiven};
+ghost use Rattle.answer_check.specs.inner.{LeftBy, WaitSays, GoSays, WalkSays};
 
 const COMMA: u8 = 44;
 

@@ -1,4 +1,4 @@
--- A printed text that fits, and how long a refusal's six lines are at most. Assumes nothing.
+-- A printed text that fits, and how long a refusal's seven lines are at most. Assumes nothing.
 use mathlib.Core.Path.{_≡_, sym, _∙_}
 use mathlib.Core.Bool.{true}
 use mathlib.Core.List.{List, [], _++_}
@@ -11,17 +11,17 @@ use Rattle.table.specs.declared.Acceptance.the-variants.{Buchi}
 use Rattle.table.specs.declared.Finding.the-variants as Finding
 use Rattle.table.specs.declared.Verdict.the-variants.{Refused}
 use Rattle.puts.specs.Put.{decimal}
-use Rattle.puts.proofs.Puts.{decimal-few}
+use Rattle.puts.proofs.Puts.{digits-few, decimal-few}
 use Rattle.job_text.specs.Value.{dash}
 use Rattle.answer_text.specs.declared.Printed.{Printed}
 use Rattle.answer_text.specs.declared.Printed.the-variants as printed
-use Rattle.answer_text.specs.Printed.{shown, verdict=, code=, place=, pair=, prefix=, cycle=, verdictWord, topText, bottomText, answerText, refusedText, Prints}
+use Rattle.answer_text.specs.Printed.{shown, verdict=, code=, place=, pair=, depth=, prefix=, cycle=, verdictWord, topText, bottomText, answerText, refusedText, Prints}
 use Rattle.answer_text.proofs.Prints.{shown-length}
 
--- ---- six lines
+-- ---- seven lines
 
--- the first four lines
-top-most : (number place : ℕ) → number < 2 ^ 32 → place < 2 ^ 32 → length (topText (Refused number place) (Buchi 0)) ≤ 56
+-- the first five lines
+top-most : (number place : ℕ) → number < 2 ^ 32 → place < 2 ^ 32 → length (topText (Refused number place) 0 (Buchi 0)) ≤ 64
 unfolding topText
 top-most number place l h =
     let one = shown verdict= (verdictWord (Refused number place)) in
@@ -29,7 +29,10 @@ top-most number place l h =
     let three = shown place= (decimal place) in
     omega (
       arith,
+      length-append (((one ++ two) ++ three) ++ shown pair= dash) (shown depth= (decimal 0)),
       length-append ((one ++ two) ++ three) (shown pair= dash),
+      shown-length depth= (decimal 0),
+      digits-few 0 0 0 (omega arith),
       length-append (one ++ two) three,
       length-append one two,
       shown-length code= (decimal number),
@@ -43,10 +46,10 @@ bottom-most : length (bottomText [] []) ≤ 17
 unfolding bottomText
 bottom-most = omega arith
 
--- 73 bytes
-pub refused-few : (number place : ℕ) → number < 2 ^ 32 → place < 2 ^ 32 → length (refusedText number place) ≤ 73
+-- 81 bytes
+pub refused-few : (number place : ℕ) → number < 2 ^ 32 → place < 2 ^ 32 → length (refusedText number place) ≤ 81
 unfolding answerText
-refused-few number place l h = omega (arith, length-append (topText (Refused number place) (Buchi 0)) (bottomText [] []), top-most number place l h, bottom-most)
+refused-few number place l h = omega (arith, length-append (topText (Refused number place) 0 (Buchi 0)) (bottomText [] []), top-most number place l h, bottom-most)
 
 -- one refusal, one text
 pub same-text : {number place x p : ℕ} → Finding.Refused number place ≡ Finding.Refused x p → refusedText number place ≡ refusedText x p

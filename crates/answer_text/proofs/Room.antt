@@ -16,7 +16,7 @@ use Rattle.table.specs.Verdict.{numberOf, placeOf, pairOf, prefixOf, cycleOf}
 use Rattle.job_text.specs.Text.{comma}
 use Rattle.puts.specs.Put.{decimal}
 use Rattle.puts.proofs.Puts.{digits-few, decimal-few}
-use Rattle.answer_text.specs.Printed.{stepText, furtherText, listText, shown, verdict=, code=, place=, pair=, prefix=, cycle=, verdictWord, pairText, topText, bottomText, answerText, mostPrinted}
+use Rattle.answer_text.specs.Printed.{stepText, furtherText, listText, shown, verdict=, code=, place=, pair=, depth=, prefix=, cycle=, verdictWord, pairText, topText, bottomText, answerText, mostPrinted}
 use Rattle.answer_text.proofs.Prints.{step-stop, step-number, shown-length}
 
 -- ---- an edge number below 512 has at most three digits, and `stop` four letters
@@ -70,15 +70,17 @@ pair-short (Run prefix cycle pair) (Rabin p) h = decimal-few pair h
 pair-short Empty c h = omega arith
 pair-short (Refused number place) c h = omega arith
 
-top-short : (v : Verdict) (c : Acceptance) → numberOf v < 2 ^ 32 → placeOf v < 2 ^ 32 → pairOf v < 2 ^ 32 → length (topText v c) ≤ 65
+top-short : (v : Verdict) (depth : ℕ) (c : Acceptance) → numberOf v < 2 ^ 32 → placeOf v < 2 ^ 32 → pairOf v < 2 ^ 32 → depth < 2 ^ 32 → length (topText v depth c) ≤ 82
 unfolding topText
-top-short v c h k l =
+top-short v depth c h k l d =
     let one = shown verdict= (verdictWord v) in
     let two = shown code= (decimal (numberOf v)) in
     let three = shown place= (decimal (placeOf v)) in
     let four = shown pair= (pairText v c) in
+    let five = shown depth= (decimal depth) in
     omega (
       arith,
+      length-append (((one ++ two) ++ three) ++ four) five,
       length-append ((one ++ two) ++ three) four,
       length-append (one ++ two) three,
       length-append one two,
@@ -90,6 +92,8 @@ top-short v c h k l =
       decimal-few (placeOf v) k,
       shown-length pair= (pairText v c),
       pair-short v c l,
+      shown-length depth= (decimal depth),
+      decimal-few depth d,
     )
 
 bottom-short : (p c : List ℕ) → Briefs p → Briefs c → length (bottomText p c) ≤ 5 * length p + 5 * length c + 17
@@ -105,16 +109,16 @@ bottom-short p c h k =
     )
 
 -- the buffer suffices: for numbers of 32 bits, and a room of at most 8,703 edges of a job
-pub enough : (v : Verdict) (c : Acceptance) (room : List ℕ) → numberOf v < 2 ^ 32 → placeOf v < 2 ^ 32 → pairOf v < 2 ^ 32 → length room ≤ 8703
-    → Briefs room → length (answerText v c room) ≤ mostPrinted
+pub enough : (v : Verdict) (depth : ℕ) (c : Acceptance) (room : List ℕ) → numberOf v < 2 ^ 32 → placeOf v < 2 ^ 32 → pairOf v < 2 ^ 32 → depth < 2 ^ 32
+    → length room ≤ 8703 → Briefs room → length (answerText v depth c room) ≤ mostPrinted
 unfolding answerText
-enough v c room h k l few brief =
+enough v depth c room h k l d few brief =
     let p = take (prefixOf v) room in
     let q = take (cycleOf v) (drop (prefixOf v) room) in
     omega (
       arith,
-      length-append (topText v c) (bottomText p q),
-      top-short v c h k l,
+      length-append (topText v depth c) (bottomText p q),
+      top-short v depth c h k l d,
       bottom-short p q (take-brief (prefixOf v) room brief) (take-brief (cycleOf v) (drop (prefixOf v) room) (drop-brief (prefixOf v) room brief)),
       length-take (prefixOf v) room,
       length-take (cycleOf v) (drop (prefixOf v) room),

@@ -1,4 +1,4 @@
-// The printer of answers: six lines into a lent buffer (docs/RULES.md, "The job text and the printed answer"). Relies on the crate `table` for the
+// The printer of answers: seven lines into a lent buffer (docs/RULES.md, "The job text and the printed answer"). Relies on the crate `table` for the
 // verdict and on `puts` for bytes and numbers. What is printed is in specs/Printed.antt.
 use puts::clear;
 use puts::put;
@@ -202,14 +202,15 @@ fn least(a: usize, b: usize) -> usize
     if a < b { a } else { b }
 }
 
-// The verdict's, the code's, the place's and the pair's lines.
-fn put_top(out: &mut [u8], verdict: Verdict, condition: Acceptance) -> usize
-    ensures { λ r. ⌜ PutFew (now (out .entry)) (now (out .exit)) 0 (topText verdict condition) r 100 ⌝ }
+// The verdict's, the code's, the place's, the pair's and the depth's lines.
+fn put_top(out: &mut [u8], verdict: Verdict, depth: u32, condition: Acceptance) -> usize
+    ensures { λ r. ⌜ PutFew (now (out .entry)) (now (out .exit)) 0 (topText verdict depth condition) r 100 ⌝ }
 {
     let code = put_verdict(out, verdict);
     let place = put_held(out, code, b"code=", number_of(verdict), b'\n');
     let pair = put_held(out, place, b"place=", place_of(verdict), b'\n');
-    put_pair(out, pair, verdict, condition)
+    let deep = put_pair(out, pair, verdict, condition);
+    put_held(out, deep, b"depth=", depth, b'\n')
 }
 
 // The prefix's and the cycle's lines.
@@ -221,34 +222,41 @@ fn put_bottom(out: &mut [u8], at: usize, prefix: &[u32], cycle: &[u32]) -> usize
     put_listed(out, next, b"cycle=", cycle)
 }
 
-// The six lines.
-fn put_answer(out: &mut [u8], verdict: Verdict, condition: Acceptance, room: &[u32]) -> usize
-    ensures { λ r. ⌜ Put (now (out .entry)) (now (out .exit)) 0 (answerText verdict condition (now (room .entry))) r ⌝ }
+// The seven lines.
+fn put_answer(
+    out: &mut [u8],
+    verdict: Verdict,
+    depth: u32,
+    condition: Acceptance,
+    room: &[u32],
+) -> usize
+    ensures { λ r. ⌜ Put (now (out .entry)) (now (out .exit)) 0 (answerText verdict depth condition (now (room .entry))) r ⌝ }
 {
     let knot = least(prefix_of(verdict) as usize, room.len());
     let end = knot + least(cycle_of(verdict) as usize, room.len() - knot);
-    let lists = put_top(out, verdict, condition);
+    let lists = put_top(out, verdict, depth, condition);
     put_bottom(out, lists, &room[0..knot], &room[knot..end])
 }
 
 // The printed answer and zeros after it, if the buffer is long enough for it; else row 11, and the buffer as it was.
 pub fn print(answer: Answer, condition: Acceptance, room: &[u32], out: &mut [u8]) -> Printed
-    ensures { λ r. ⌜ Prints (answerText (answer .verdict) condition (now (room .entry))) (now (out .entry)) (now (out .exit)) r ⌝ }
+    ensures { λ r. ⌜ Prints (answerText (answer .verdict) (answer .depth) condition (now (room .entry))) (now (out .entry)) (now (out .exit)) r ⌝ }
 {
     let verdict = answer.verdict;
-    let length = put_answer(&mut out[0..0], verdict, condition, room);
+    let depth = answer.depth;
+    let length = put_answer(&mut out[0..0], verdict, depth, condition, room);
     if out.len() < length {
         return Printed::Refused {
             number: 11,
             place: 0,
         };
     }
-    put_answer(out, verdict, condition, room);
+    put_answer(out, verdict, depth, condition, room);
     clear(out, length);
     Printed::Text { length }
 }
 
-// The six lines of a refusal and zeros after them, in the same way.
+// The seven lines of a refusal and zeros after them, in the same way.
 pub fn print_refused(number: u32, place: u32, out: &mut [u8]) -> Printed
     ensures { λ r. ⌜ Prints (refusedText number place) (now (out .entry)) (now (out .exit)) r ⌝ }
 {

@@ -57,8 +57,8 @@ record Slight (v : Verdict) (room : List ℕ) : Type 0 where
   few : length room ≤ lentRoom
   brief : Briefs room
 
-slight-short : (v : Verdict) (c : Acceptance) (room : List ℕ) → Slight v room → length (answerText v c room) ≤ mostPrinted
-slight-short v c room s = enough v c room (s .number) (s .place) (s .pair) (s .few) (s .brief)
+slight-short : (v : Verdict) (depth : ℕ) (c : Acceptance) (room : List ℕ) → depth < 2 ^ 32 → Slight v room → length (answerText v depth c room) ≤ mostPrinted
+slight-short v depth c room d s = enough v depth c room (s .number) (s .place) (s .pair) d (s .few) (s .brief)
 
 -- ---- a refusal
 
@@ -66,7 +66,7 @@ slight-refused : (number place : ℕ) (room : List ℕ) → number < 2 ^ 32 → 
 slight-refused number place room n p few brief = record { number = n; place = p; pair = omega arith; few = few; brief = brief }
 
 pub refused-fits : (number place : ℕ) → number < 2 ^ 32 → place < 2 ^ 32 → length (refusedText number place) ≤ mostPrinted
-refused-fits number place n p = slight-short (RefusedVerdict number place) (Buchi 0) [] (slight-refused number place [] n p (omega arith) (λ i. inl (omega arith)))
+refused-fits number place n p = slight-short (RefusedVerdict number place) 0 (Buchi 0) [] (omega arith) (slight-refused number place [] n p (omega arith) (λ i. inl (omega arith)))
 
 -- ---- an answer
 
@@ -112,6 +112,6 @@ module _ (n start : ℕ) (from to marks : List ℕ) (c : Acceptance) (needs : Li
       let place-few : place < 2 ^ 32 = below number 5 (λ l. omega (arith, row .whole (omega arith))) (λ l. omega (arith, row .edge l, few)) in
       rw (K .says, K .room-kept) (slight-refused number place room (omega (arith, row .most)) place-few long (rw is-room (brief-zeros lentRoom)))
 
-  pub answer-fits : (v : Verdict) → ByCause (refusal (lent n start from to marks) c needs) (lent n start from to marks) c needs room room' scratch scratch' v
-      → length (answerText v c room') ≤ mostPrinted
-  answer-fits v B = slight-short v c room' (cause-slight (refusal (lent n start from to marks) c needs) v refl B)
+  pub answer-fits : (v : Verdict) (depth : ℕ) → depth < 2 ^ 32 → ByCause (refusal (lent n start from to marks) c needs) (lent n start from to marks) c needs room room' scratch scratch' v
+      → length (answerText v depth c room') ≤ mostPrinted
+  answer-fits v depth d B = slight-short v depth c room' d (cause-slight (refusal (lent n start from to marks) c needs) v refl B)

@@ -7,19 +7,21 @@ use native.Mathlib.Omega.{arith}
 use lib.ListN.{length, replicate, length-append}
 use Rattle.table.specs.declared.Finding.{Finding}
 use Rattle.table.specs.declared.Finding.the-variants.{Sound, Refused}
+use Rattle.table.specs.declared.Verdict.{Verdict}
 use Rattle.table.specs.declared.Verdict.the-variants.{Refused as RefusedVerdict}
 use Rattle.table.proofs.Door.{refused-row}
 use Rattle.job_text.specs.Job.{mostBytes, Job, Outcome, job, fault, readJob}
 use Rattle.answer_text.specs.Printed.{topText, answerText, refusedText, mostPrinted}
 use Rattle.job_text.proofs.Jobs.{too-long}
 use Rattle.job_text.specs.Asked.{jobTable, firstCause}
+use Rattle.hunting.specs.Depth.{Deep}
 use Rattle.judge_text.specs.Replied.{JobReply, ReplyTo, Replied}
 use Rattle.judge_text.specs.Reply.{RefusedFor, Answered}
 use Rattle.judge_text.proofs.Limits.{Bounded, read-bounded}
 use Rattle.judge_text.proofs.Lent.{By, by-rows}
 
 -- a refusal's text is the same whatever the condition and the room
-pub refused-same : (number place : ℕ) (j : Job) (room : List ℕ) → answerText (RefusedVerdict number place) (j .condition) room ≡ refusedText number place
+pub refused-same : (number place : ℕ) (j : Job) (room : List ℕ) → answerText (RefusedVerdict number place) 0 (j .condition) room ≡ refusedText number place
 unfolding answerText topText
 refused-same number place j room = refl
 
@@ -29,15 +31,16 @@ module _ (text printed : List ℕ) where
       → By j (J .room) (J .scratch) (J .answer .verdict) f
       → Answered text printed ⊎ RefusedFor text printed
   by-cause j o Sound e J B =
-      inl (record { asked = j; read = o; sound = e; verdict = J .answer .verdict; room = J .room; decided = B .decided; is = J .is })
+      inl (record { asked = j; read = o; sound = e; verdict = J .answer .verdict; depth = J .answer .depth; room = J .room; decided = B .decided; deep = J .allowed .deep; is = J .is })
   by-cause j o (Refused number place) e J B =
       let row = refused-row (jobTable j) (j .condition) (j .needs) number place e in
+      let level : J .answer .depth ≡ 0 = subst (λ (v : Verdict). Deep (jobTable j) (j .condition) v (J .answer .depth)) (B .says) (J .allowed .deep) in
       inr (record {
         number = number;
         place = place;
         cause = ap firstCause o ∙ e;
         row = inl (row .some, row .most);
-        is = J .is ∙ rw (B .says) (refused-same number place j (J .room));
+        is = J .is ∙ rw (B .says, level) (refused-same number place j (J .room));
       })
 
   by-outcome : (o : Outcome) → readJob text ≡ o → Bounded o → ReplyTo o printed → Answered text printed ⊎ RefusedFor text printed

@@ -2,7 +2,7 @@
 -- and the reading names the case. Assumes nothing.
 use mathlib.Core.Path.{_≡_, refl, sym, ap, _∙_, subst}
 use mathlib.Core.List.{List, _++_, map}
-use Prim.Native.Nat.{ℕ, _-_, _≤_}
+use Prim.Native.Nat.{ℕ, _-_, _^_, _≤_, _<_}
 use native.Mathlib.Omega.{arith}
 use lib.ListN.{length, take, drop, replicate, length-append, length-map, length-take}
 use Rattle.table.specs.declared.Acceptance.{Acceptance}
@@ -42,16 +42,16 @@ module _ {text b b' b'' from to marks : List ℕ} {r : Reading} (R : Read text b
 -- ---- what the judge answers
 
 -- a table within a job's limits: what the judge answers fits
-pub judged-fits : (n start : ℕ) (from to marks : List ℕ) (c : Acceptance) (needs room scratch : List ℕ) (a : Answer) → n ≤ mostJobStates → length from ≤ mostJobEdges
-    → Answers (lent n start from to marks) c needs (replicate lentRoom 0) room (replicate lentScratch 0) scratch a → length (answerText (a .verdict) c room) ≤ mostPrinted
-judged-fits n start from to marks c needs room scratch a few-states few-edges A =
-    answer-fits n start from to marks c needs few-edges (replicate lentRoom 0) room (replicate lentScratch 0) scratch refl (a .verdict)
+pub judged-fits : (n start : ℕ) (from to marks : List ℕ) (c : Acceptance) (needs room scratch : List ℕ) (a : Answer) → a .depth < 2 ^ 32 → n ≤ mostJobStates → length from ≤ mostJobEdges
+    → Answers (lent n start from to marks) c needs (replicate lentRoom 0) room (replicate lentScratch 0) scratch a → length (answerText (a .verdict) (a .depth) c room) ≤ mostPrinted
+judged-fits n start from to marks c needs room scratch a d few-states few-edges A =
+    answer-fits n start from to marks c needs few-edges (replicate lentRoom 0) room (replicate lentScratch 0) scratch refl (a .verdict) (a .depth) d
     (subst (λ (f : Finding). ByCause f (lent n start from to marks) c needs (replicate lentRoom 0) room (replicate lentScratch 0) scratch (a .verdict))
     (enough n start from to marks c needs few-states few-edges) (A .says))
 
 -- a job that was judged has its reply
 pub job-reply : (j : Job) → Limited j → {out : List ℕ} {size : ℕ} (G : Judged (jobTable j) (j .condition) (j .needs) out size)
-    → JobReply j (answerText (G .answer .verdict) (j .condition) (G .room))
+    → JobReply j (answerText (G .answer .verdict) (G .answer .depth) (j .condition) (G .room))
 job-reply j L G =
     record {
       answer = G .answer;

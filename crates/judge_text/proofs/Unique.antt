@@ -1,5 +1,5 @@
 -- Two results that the contract allows for one text are the same, the lasso's own edges and lengths aside: then both are runs, with the same lines of
--- verdict, code, place and pair (docs/DECISIONS.md, "Which lasso", gives the grounds). Assumes nothing.
+-- verdict, code, place, pair and depth (docs/DECISIONS.md, "Which lasso", gives the grounds). Assumes nothing.
 use mathlib.Core.Path.{_≡_, refl, sym, ap, _∙_}
 use mathlib.Core.List.{List}
 use mathlib.Core.Logic.{_⊎_, inl, inr}
@@ -19,26 +19,28 @@ use Rattle.judge_text.specs.Reply.{TwoRuns}
 
 -- by the verdicts
 module _ (c : Acceptance) {room room' scratch scratch' : List ℕ} where
-  same-text : (v w : Verdict) {d e : ℕ} → Alike v w d e room room' scratch scratch' → (answerText v c room ≡ answerText w c room') ⊎ TwoRuns (answerText v c room) (answerText w c room')
+  same-text : (v w : Verdict) {d e : ℕ} → Alike v w d e room room' scratch scratch'
+      → (answerText v d c room ≡ answerText w e c room') ⊎ TwoRuns (answerText v d c room) (answerText w e c room')
   unfolding answerText topText
-  same-text (Run p q i) (Run p' q' i') A = inr (record {
+  same-text (Run p q i) (Run p' q' i') {d} A = inr (record {
     condition = c;
     pair = i;
+    depth = d;
     prefix = take p room;
     cycle = take q (drop p room);
     prefix' = take p' room';
     cycle' = take q' (drop p' room');
     first = refl;
-    second = rw (A .pair);
+    second = rw (A .pair, A .depth);
   })
   same-text (Run p q i) Empty A = absurd (omega (arith, A .kind))
   same-text (Run p q i) (Refused x e) A = absurd (omega (arith, A .kind))
   same-text Empty (Run p q i) A = absurd (omega (arith, A .kind))
-  same-text Empty Empty A = inl refl
+  same-text Empty Empty A = inl (rw (A .depth))
   same-text Empty (Refused x e) A = absurd (omega (arith, A .kind))
   same-text (Refused x e) (Run p q i) A = absurd (omega (arith, A .kind))
   same-text (Refused x e) Empty A = absurd (omega (arith, A .kind))
-  same-text (Refused x e) (Refused y f) A = inl (rw (A .number, A .place))
+  same-text (Refused x e) (Refused y f) A = inl (rw (A .number, A .place, A .depth))
 
 -- by what the text says
 same-printed : (o : Outcome) (printed printed' : List ℕ) → ReplyTo o printed → ReplyTo o printed' → (printed ≡ printed') ⊎ TwoRuns printed printed'

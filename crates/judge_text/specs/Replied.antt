@@ -31,7 +31,7 @@ pub record JobReply (j : Job) (printed : List ℕ) : Type 0 where
   pub scratch : List ℕ
   pub allowed : Answers (jobTable j) (j .condition) (j .needs) (replicate lentRoom 0) room (replicate lentScratch 0) scratch answer
   pub enough : judgeRefusal (jobTable j) (j .condition) (j .needs) lentRoom lentScratch ≡ refusal (jobTable j) (j .condition) (j .needs)
-  pub is : printed ≡ answerText (answer .verdict) (j .condition) room
+  pub is : printed ≡ answerText (answer .verdict) (answer .depth) (j .condition) room
 
 -- "20 comes first", 21, 22 and 23 line by line: what the reader refuses is printed as it is; "then rows 1 to 9": what it reads is judged
 abbrev pub ReplyTo : Outcome → List ℕ → Type 0

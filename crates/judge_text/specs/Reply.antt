@@ -11,6 +11,7 @@ use Rattle.table.specs.declared.Verdict.the-variants.{Run}
 use Rattle.job_text.specs.Job.{Job, job, readJob}
 use Rattle.job_text.specs.Asked.{jobTable, firstCause}
 use Rattle.answer_text.specs.Printed.{topText, bottomText, answerText, refusedText}
+use Rattle.hunting.specs.Depth.{Deep}
 use Rattle.judging.specs.Answer.{Decided}
 
 -- a row of the table of causes that a text can come to: 1 to 7, 20 to 23
@@ -25,23 +26,27 @@ pub record RefusedFor (text printed : List ℕ) : Type 0 where
   pub row : TextRow number
   pub is : printed ≡ refusedText number place
 
--- an answer: the text says a job, no row refuses it, and the printed verdict is decided: a run with an accepted lasso, or empty, when no lasso is accepted
+-- an answer: the text says a job, no row refuses it, the printed verdict is decided: a run with an accepted lasso, or empty, when no lasso is accepted; and the
+-- printed depth is the erasing's
 pub record Answered (text printed : List ℕ) : Type 0 where
   pub asked : Job
   pub read : readJob text ≡ job asked
   pub sound : firstCause (job asked) ≡ Sound
   pub verdict : Verdict
+  pub depth : ℕ
   pub room : List ℕ
   pub decided : Decided (jobTable asked) (asked .condition) (asked .needs) verdict room
-  pub is : printed ≡ answerText verdict (asked .condition) room
+  pub deep : Deep (jobTable asked) (asked .condition) verdict depth
+  pub is : printed ≡ answerText verdict depth (asked .condition) room
 
--- two runs that differ in their lassos at most: the lines of verdict, code, place and pair are the same
+-- two runs that differ in their lassos at most: the lines of verdict, code, place, pair and depth are the same
 pub record TwoRuns (printed printed' : List ℕ) : Type 0 where
   pub condition : Acceptance
   pub pair : ℕ
+  pub depth : ℕ
   pub prefix : List ℕ
   pub cycle : List ℕ
   pub prefix' : List ℕ
   pub cycle' : List ℕ
-  pub first : printed ≡ topText (Run 0 0 pair) condition ++ bottomText prefix cycle
-  pub second : printed' ≡ topText (Run 0 0 pair) condition ++ bottomText prefix' cycle'
+  pub first : printed ≡ topText (Run 0 0 pair) depth condition ++ bottomText prefix cycle
+  pub second : printed' ≡ topText (Run 0 0 pair) depth condition ++ bottomText prefix' cycle'

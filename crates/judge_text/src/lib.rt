@@ -32,8 +32,8 @@ const LENT_SCRATCH: usize = 4160;
 
 // Prints an answer that fits.
 fn show(answer: Answer, condition: Acceptance, room: &[u32], out: &mut [u8; MOST_PRINTED]) -> usize
-    requires { ⌜ length (answerText (answer .verdict) condition (now room)) ≤ mostPrinted ⌝ }
-    ensures { λ r. ⌜ Holds (answerText (answer .verdict) condition (now (room .entry))) (now (out .exit)) r ⌝ }
+    requires { ⌜ length (answerText (answer .verdict) (answer .depth) condition (now room)) ≤ mostPrinted ⌝ }
+    ensures { λ r. ⌜ Holds (answerText (answer .verdict) (answer .depth) condition (now (room .entry))) (now (out .exit)) r ⌝ }
 {
     match print(answer, condition, room, out) {
         Printed::Text { length } => length,

@@ -30,29 +30,35 @@ pub record SameButLasso (r s : AnswerNumbers) (room₁ room₂ scratch₁ scratc
   pub number : r .number ≡ s .number
   pub place : r .place ≡ s .place
   pub pair : r .pair ≡ s .pair
+  pub depth : r .depth ≡ s .depth
   pub no-run : r .verdict < 2 → (r ≡ s) × (room₁ ≡ room₂)
   pub room-length : length room₁ ≡ length room₂
   pub scratch : scratch₁ ≡ scratch₂
 
--- kind, number and place are all there is to a verdict that is no run
-no-more : (v w : Verdict) → kindOf v ≡ kindOf w → numberOf v ≡ numberOf w → placeOf v ≡ placeOf w → kindOf v < 2 → answerNumbers v ≡ answerNumbers w
-no-more (Run p q i) w k n l b = absurd (omega (arith, b))
-no-more Empty (Run p q i) k n l b = absurd (omega (arith, k))
-no-more Empty Empty k n l b = refl
-no-more Empty (Refused n' l') k n l b = absurd (omega (arith, k))
-no-more (Refused n₁ l₁) (Run p q i) k n l b = absurd (omega (arith, k))
-no-more (Refused n₁ l₁) Empty k n l b = absurd (omega (arith, k))
-no-more (Refused n₁ l₁) (Refused n₂ l₂) k n l b = rw (n, l)
+-- the numbers of a verdict and a depth
+abbrev told : Verdict → ℕ → AnswerNumbers
+told v d = answerNumbers (record { verdict = v; depth = d })
 
-alike-same : (v w : Verdict) {d e : ℕ} {room₁ room₂ scratch₁ scratch₂ : List ℕ} → Alike v w d e room₁ room₂ scratch₁ scratch₂
-    → SameButLasso (answerNumbers v) (answerNumbers w) room₁ room₂ scratch₁ scratch₂
-alike-same v w A =
+-- kind, number, place and depth are all there is to an answer that is no run
+no-more : (v w : Verdict) (d : ℕ) → kindOf v ≡ kindOf w → numberOf v ≡ numberOf w → placeOf v ≡ placeOf w → kindOf v < 2 → told v d ≡ told w d
+no-more (Run p q i) w d k n l b = absurd (omega (arith, b))
+no-more Empty (Run p q i) d k n l b = absurd (omega (arith, k))
+no-more Empty Empty d k n l b = refl
+no-more Empty (Refused n' l') d k n l b = absurd (omega (arith, k))
+no-more (Refused n₁ l₁) (Run p q i) d k n l b = absurd (omega (arith, k))
+no-more (Refused n₁ l₁) Empty d k n l b = absurd (omega (arith, k))
+no-more (Refused n₁ l₁) (Refused n₂ l₂) d k n l b = rw (n, l)
+
+alike-same : (v w : Verdict) (d e : ℕ) {room₁ room₂ scratch₁ scratch₂ : List ℕ} → Alike v w d e room₁ room₂ scratch₁ scratch₂
+    → SameButLasso (told v d) (told w e) room₁ room₂ scratch₁ scratch₂
+alike-same v w d e A =
     record {
       verdict = A .kind;
       number = A .number;
       place = A .place;
       pair = A .pair;
-      no-run = λ b. (no-more v w (A .kind) (A .number) (A .place) b, A .room b);
+      depth = A .depth;
+      no-run = λ b. (no-more v w d (A .kind) (A .number) (A .place) b ∙ ap (told w) (A .depth), A .room b);
       room-length = A .room-length;
       scratch = A .scratch;
     }
@@ -62,7 +68,7 @@ pub judge-once : (t : Table) (c : Acceptance) (needs room scratch : List ℕ) (r
     → SameButLasso r s room₁ room₂ scratch₁ scratch₂
 judge-once t c needs room scratch r s R S =
     rw (R .told, S .told)
-    (alike-same (R .answer .verdict) (S .answer .verdict) (answers-alike t c needs room scratch (R .answer) (S .answer) (R .promised) (S .promised)))
+    (alike-same (R .answer .verdict) (S .answer .verdict) (R .answer .depth) (S .answer .depth) (answers-alike t c needs room scratch (R .answer) (S .answer) (R .promised) (S .promised)))
 
 -- ---- the translation
 

@@ -4,7 +4,6 @@ use mathlib.Core.List.{List}
 use Prim.Native.Nat.{ℕ}
 use lib.ListN.{replicate}
 use Rattle.table.specs.declared.Acceptance.{Acceptance}
-use Rattle.table.specs.declared.Verdict.{Verdict}
 use Rattle.table.specs.declared.Answer.{Answer}
 use Rattle.table.specs.Table.{Table}
 use Rattle.table.specs.Verdict.{kindOf, numberOf, placeOf, pairOf, prefixOf, cycleOf}
@@ -16,16 +15,17 @@ use Rattle.mukhadero.specs.declared.TableNumbers.{TableNumbers}
 
 -- ---- the judge
 
--- a verdict in plain numbers
-abbrev pub answerNumbers : Verdict → AnswerNumbers
-answerNumbers v =
+-- an answer in plain numbers
+abbrev pub answerNumbers : Answer → AnswerNumbers
+answerNumbers a =
     record {
-      verdict = kindOf v;
-      number = numberOf v;
-      place = placeOf v;
-      pair = pairOf v;
-      prefix = prefixOf v;
-      cycle = cycleOf v;
+      verdict = kindOf (a .verdict);
+      number = numberOf (a .verdict);
+      place = placeOf (a .verdict);
+      pair = pairOf (a .verdict);
+      prefix = prefixOf (a .verdict);
+      cycle = cycleOf (a .verdict);
+      depth = a .depth;
     }
 
 -- kinds other than Rabin do not read the needs
@@ -36,7 +36,7 @@ noNeeds = replicate 8 0
 pub record JudgeTells (t : Table) (c : Acceptance) (needs room room' scratch scratch' : List ℕ) (r : AnswerNumbers) : Type 0 where
   pub answer : Answer
   pub promised : Answers t c needs room room' scratch scratch' answer
-  pub told : r ≡ answerNumbers (answer .verdict)
+  pub told : r ≡ answerNumbers answer
 
 -- ---- the translation
 

@@ -22,8 +22,8 @@ const RUN: u32 = 2;
 
 pub(crate) const ANSWERED: u32 = 0;
 
-// 1.2.0: 10,000 for the major number, 100 for the minor, 1 for the patch; as MUKHADERO_VERSION of the header
-const VERSION: u32 = 10200;
+// 1.3.0: 10,000 for the major number, 100 for the minor, 1 for the patch; as MUKHADERO_VERSION of the header
+const VERSION: u32 = 10300;
 
 // `mukhadero_answer`: a field that has no meaning for the verdict is 0.
 #[repr(C)]
@@ -36,6 +36,8 @@ pub struct AnswerNumbers {
     pub prefix: u32,
     // edges of the cycle
     pub cycle: u32,
+    // how deep the erasing went
+    pub depth: u32,
 }
 
 // `mukhadero_table`: all but number and place are 0 if it was refused.
@@ -50,9 +52,10 @@ pub struct TableNumbers {
 
 // A judge's answer in plain numbers.
 fn answer_numbers(answer: Answer) -> AnswerNumbers
-    ensures { λ r. ⌜ r ≡ answerNumbers (answer .verdict) ⌝ }
+    ensures { λ r. ⌜ r ≡ answerNumbers answer ⌝ }
 {
     let verdict = answer.verdict;
+    let depth = answer.depth;
     match verdict {
         Verdict::Run {
             prefix,
@@ -65,6 +68,7 @@ fn answer_numbers(answer: Answer) -> AnswerNumbers
             pair: pair,
             prefix: prefix,
             cycle: cycle,
+            depth: depth,
         },
         Verdict::Empty => AnswerNumbers {
             verdict: EMPTY,
@@ -73,6 +77,7 @@ fn answer_numbers(answer: Answer) -> AnswerNumbers
             pair: 0,
             prefix: 0,
             cycle: 0,
+            depth: depth,
         },
         Verdict::Refused { number, place } => AnswerNumbers {
             verdict: REFUSED,
@@ -81,6 +86,7 @@ fn answer_numbers(answer: Answer) -> AnswerNumbers
             pair: 0,
             prefix: 0,
             cycle: 0,
+            depth: depth,
         },
     }
 }
@@ -114,7 +120,7 @@ fn table_numbers(answer: Translation) -> TableNumbers
 // The version of this archive.
 #[no_mangle]
 pub extern "C" fn mukhadero_version() -> u32
-    ensures { λ r. ⌜ r ≡ 10200 ⌝ }
+    ensures { λ r. ⌜ r ≡ 10300 ⌝ }
 {
     VERSION
 }

@@ -1,7 +1,7 @@
 -- `check_sound` meets its contract: the form decides, and a run is walked and judged. Assumes nothing.
 use mathlib.Core.Path.{subst}
 use denote.Ref.{now}
-use Rattle.answer_check.specs.inner.{FormOf}
+use Rattle.answer_form.specs.Given.{FormOf}
 use Rattle.answer_check.proofs.Telling.{told-malformed, told-no-run, told-run, named}
 use native.Mathlib.Omega.{arith}
 use borrow.Author.Needs.{needs}

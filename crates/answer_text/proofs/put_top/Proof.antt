@@ -1,4 +1,4 @@
--- `put_top` meets its contract: the four lines, one after the other. Assumes nothing.
+-- `put_top` meets its contract: the five lines, one after the other. Assumes nothing.
 use Rattle.answer_text.specs.Printed.{topText}
 use Rattle.puts.proofs.Puts.{put-both}
 use native.Mathlib.Omega.{arith}
@@ -30,17 +30,29 @@ put-held-requires-2 c κs = search needs
 put-pair-requires : tie.Need-put-pair-requires
 put-pair-requires c κs = search needs
 
+slice-aggregate-put-held-3 : tie.Need-slice-aggregate-put-held-3
+slice-aggregate-put-held-3 c = search needs
+
+put-held-requires-3 : tie.Need-put-held-requires-3
+put-held-requires-3 c κs = search needs
+
 same-length : tie.Need-same-length
 same-length c = search needs
 
 returns : tie.Need-returns
 unfolding topText
 returns c =
+    let at-depth = c .before .before in
+    let at-pair = at-depth .before .before .before .before .before in
+    let at-place = at-pair .before .before .before .before in
+    let at-code = at-place .before .before .before .before .before .before in
+    let at-verdict = at-code .before .before .before .before .before .before in
     record {
       put =
-          rw (← c .before .before .before .before .before .before .before .before .before .before .before .before .before .number-of .ensures, ← c .before .before .before .before .before .before .before .place-of .ensures)
-          (put-both (put-both (put-both (c .before .before .before .before .before .before .before .before .before .before .before .before .before .before .before .before .before .before .put-verdict .ensures .put) (c .before .before .before .before .before .before .before .before .before .before .before .before .put-held .ensures .put)) (c .before .before .before .before .before .before .put-held2 .ensures .put)) (c .before .before .put-pair .ensures .put));
-      few = omega (arith, c .before .before .before .before .before .before .before .before .before .before .before .before .before .before .before .before .before .before .put-verdict .ensures .few, c .before .before .before .before .before .before .before .before .before .before .before .before .put-held .ensures .few, c .before .before .before .before .before .before .put-held2 .ensures .few, c .before .before .put-pair .ensures .few);
+          rw (← at-code .before .number-of .ensures, ← at-place .before .place-of .ensures)
+          (put-both (put-both (put-both (put-both (at-verdict .put-verdict .ensures .put) (at-code .put-held .ensures .put)) (at-place .put-held2 .ensures .put)) (at-pair .put-pair .ensures .put)) (at-depth .put-held3 .ensures .put));
+      few =
+          omega (arith, at-verdict .put-verdict .ensures .few, at-code .put-held .ensures .few, at-place .put-held2 .ensures .few, at-pair .put-pair .ensures .few, at-depth .put-held3 .ensures .few);
     }
 
 pub put-top-spec : {M : Type 1} → statement M
@@ -55,5 +67,7 @@ put-top-spec =
     place-of-requires
     put-held-requires-2
     put-pair-requires
+    slice-aggregate-put-held-3
+    put-held-requires-3
     same-length
     returns)

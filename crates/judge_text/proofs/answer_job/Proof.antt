@@ -1,4 +1,5 @@
 -- `answer_job` meets its contract: what the judge answers on a table within a job's limits fits (`judged-fits`), so all of it is printed. Assumes nothing.
+use native.Mathlib.Omega.{arith}
 use borrow.Author.Needs.{needs}
 use denote.Ref.{now}
 use Rattle.judge_text.proofs.Telling.{judged-fits}
@@ -24,7 +25,7 @@ show-requires c κs =
     let a = at-entry .args in
     let lent = at-judge .judge .last .1 .1 .1 .1 .1 .1 .1 in
     judged-fits (a .states) (a .start) (now (a .from)) (now (a .to)) (now (a .marks)) (a .condition) (a .needs) (lent .0) (lent .1 .0) (at-judge .judge .result)
-    (at-entry .pre .0) (at-entry .pre .1) (at-judge .judge .ensures)
+    (omega arith) (at-entry .pre .0) (at-entry .pre .1) (at-judge .judge .ensures)
 
 returns : tie.Need-returns
 returns c =

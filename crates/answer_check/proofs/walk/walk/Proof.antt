@@ -5,7 +5,7 @@ use mathlib.Core.Option.{Option}
 use Prim.Native.Nat.{ℕ}
 use denote.Ref.{now}
 use Rattle.answer_check.specs.inner.{WalkSays}
-use Rattle.answer_check.proofs.Forms.{list-none, list-steps}
+use Rattle.answer_form.proofs.Forms.{list-none, list-steps}
 use Rattle.answer_check.proofs.Going.{no-edges}
 use borrow.Author.Needs.{needs}
 use Rattle.answer_check.proofs.walk.walk.Statement.{statement}

@@ -1,4 +1,4 @@
-"""What the trials share (tools/try-judge, tools/try-hoa, tools/try-translate, tools/try-picture, tools/try-release, tools/walk); not a command by itself."""
+"""What the trials share (tools/try-judge, tools/try-hoa, tools/try-translate, tools/try-answer, tools/try-picture, tools/try-release, tools/walk); not a command by itself."""
 
 import os
 import shutil

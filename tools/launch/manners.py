@@ -17,6 +17,7 @@ from pathlib import Path
 
 EMPTY, RUN, REFUSED, NO_ANSWER = 0, 1, 2, 3
 WRITTEN = DRAWN = 0  # of a launcher that writes a text, or draws
+ACCEPTED, REJECTED = 0, 1  # of the launcher that checks
 SAID = 40  # tools/launch/run takes a status from here on for what was said, and all others for an accident
 INPUT = 9  # standard input, as tools/launch/run hands it on
 

@@ -2,7 +2,7 @@
 use mathlib.Core.Path.{_≡_, refl, sym, ap, _∙_, subst}
 use mathlib.Core.Logic.{_↔_, _⊎_, inl, inr}
 use mathlib.Core.List.{List, _++_}
-use Prim.Native.Nat.{ℕ, _-_}
+use Prim.Native.Nat.{ℕ, _-_, _≤_}
 use native.Mathlib.Omega.{arith}
 use lib.ListN.{getD, take, replicate}
 use lib.Seq.{take-append-seam, getD-take}
@@ -12,31 +12,33 @@ use Rattle.table.specs.declared.Finding.the-variants.{Sound, Refused}
 use Rattle.table.specs.declared.Verdict.{Verdict}
 use Rattle.table.specs.declared.Verdict.the-variants as verdict
 use Rattle.table.proofs.Sound.{Fit, sound-fit}
+use Rattle.job_text.specs.Value.{mostNumber}
 use Rattle.job_text.specs.Job.{Job, Outcome, job, fault, readJob}
 use Rattle.job_text.specs.Asked.{jobTable, edgeCells, firstCause}
 use Rattle.answer_text.specs.Printed.{topText, answerText, refusedText, mostPrinted}
+use Rattle.hunting.specs.Depth.{Deep}
 use Rattle.judging.specs.Answer.{Decided, RunSays}
 use Rattle.judge_text.specs.Replied.{Holds, Replied}
 use Rattle.judge_text.specs.Reply.{RefusedFor, Answered}
 use Rattle.judge_text.proofs.Replies.{answered-or-refused}
 use Rattle.answer_check.specs.declared.Checked.{Checked}
 use Rattle.answer_check.specs.declared.Checked.the-variants as checked
-use Rattle.answer_check.specs.Form.{run, empty, Says, NoRun}
+use Rattle.answer_form.specs.Form.{run, empty, Says, NoRun}
 use Rattle.answer_check.specs.Checking.{Told, no-run, ByCause, ByJob, Checks, NamesAccepted}
 use Rattle.answer_check.proofs.Unique.{checks-once, accepted-exactly}
 use Rattle.own_answers.specs.Own.{Begins, OwnSaid, OwnAnswers}
 use Rattle.own_answers.specs.Own as own
-use Rattle.own_answers.proofs.Runs.{named-met, run-says}
+use Rattle.own_answers.proofs.Runs.{depth-within, named-met, run-says}
 
 -- ---- the first line
 
-run-begins : (p q pair : ℕ) (c : Acceptance) (room : List ℕ) → Begins (verdict.Run 0 0 0) (answerText (verdict.Run p q pair) c room)
+run-begins : (p q pair depth : ℕ) (c : Acceptance) (room : List ℕ) → Begins (verdict.Run 0 0 0) (answerText (verdict.Run p q pair) depth c room)
 unfolding answerText topText
-run-begins p q pair c room = refl
+run-begins p q pair depth c room = refl
 
-empty-begins : (c : Acceptance) (room : List ℕ) → Begins verdict.Empty (answerText verdict.Empty c room)
+empty-begins : (depth : ℕ) (c : Acceptance) (room : List ℕ) → Begins verdict.Empty (answerText verdict.Empty depth c room)
 unfolding answerText topText
-empty-begins c room = refl
+empty-begins depth c room = refl
 
 -- the tenth byte tells `run` from `empty` ..
 empty-not-run : (text : List ℕ) → Begins verdict.Empty text → Begins (verdict.Run 0 0 0) text → ⊥
@@ -69,7 +71,7 @@ module _ (text printed : List ℕ) (j : Job) (read : readJob text ≡ job j) (so
 
   -- a run names an accepted lasso
   run-named : (p q pair : ℕ) (room : List ℕ) (R : RunSays (jobTable j) (j .condition) (j .needs) p q pair room)
-      → printed ≡ answerText (verdict.Run p q pair) (j .condition) room → NamesAccepted text printed
+      → printed ≡ answerText (verdict.Run p q pair) 0 (j .condition) room → NamesAccepted text printed
   run-named p q pair room R is =
       let says = run-says (jobTable j) (j .condition) (j .needs) (fit .proper .few-edges) (fit .condition) R in
       record {
@@ -85,9 +87,9 @@ module _ (text printed : List ℕ) (j : Job) (read : readJob text ≡ job j) (so
       }
 
   -- empty is no run
-  empty-said : (room : List ℕ) → printed ≡ answerText verdict.Empty (j .condition) room → NoRun (j .condition) printed
+  empty-said : (depth : ℕ) (room : List ℕ) → depth ≤ mostNumber → printed ≡ answerText verdict.Empty depth (j .condition) room → NoRun (j .condition) printed
   unfolding answerText
-  empty-said room is = record { said = empty; says = record { ours = tt; prints = is }; other = λ pair prefix cycle e. let z : _≡_ {A = ℕ} 0 1 = cc in omega arith }
+  empty-said depth room l is = record { said = empty depth; says = record { ours = l; prints = is }; other = λ pair prefix cycle e. let z : _≡_ {A = ℕ} 0 1 = cc in omega arith }
 
   empty-told : NoRun (j .condition) printed → Checks text printed (checked.Refused 51 0)
   empty-told N =
@@ -96,19 +98,22 @@ module _ (text printed : List ℕ) (j : Job) (read : readJob text ≡ job j) (so
       subst (λ (f : Finding). ByCause f (jobTable j) (j .condition) (j .needs) printed (checked.Refused 51 0)) (sym sound) told in
       subst (λ (o : Outcome). ByJob o printed (checked.Refused 51 0)) (sym read) caused
 
-  by-verdict : (v : Verdict) (room : List ℕ) → Decided (jobTable j) (j .condition) (j .needs) v room → printed ≡ answerText v (j .condition) room
-      → (r : Checked) → Checks text printed r → OwnSaid text printed r
-  by-verdict (verdict.Run p q pair) room R is r T =
-      own.run (subst (Begins (verdict.Run 0 0 0)) (sym is) (run-begins p q pair (j .condition) room)) (accepted-exactly text printed r T .1 (run-named p q pair room R is))
-  by-verdict verdict.Empty room D is r T =
-      own.empty (subst (Begins verdict.Empty) (sym is) (empty-begins (j .condition) room))
-      (checks-once text printed r (checked.Refused 51 0) T (empty-told (empty-said room is)))
-  by-verdict (verdict.Refused number place) room D is r T = absurd D
+  by-verdict : (v : Verdict) (depth : ℕ) (room : List ℕ) → Decided (jobTable j) (j .condition) (j .needs) v room → Deep (jobTable j) (j .condition) v depth
+      → printed ≡ answerText v depth (j .condition) room → (r : Checked) → Checks text printed r → OwnSaid text printed r
+  by-verdict (verdict.Run p q pair) depth room R flat is r T =
+      let printed-flat = is ∙ ap (λ (d : ℕ). answerText (verdict.Run p q pair) d (j .condition) room) flat in
+      own.run (subst (Begins (verdict.Run 0 0 0)) (sym is) (run-begins p q pair depth (j .condition) room))
+      (accepted-exactly text printed r T .1 (run-named p q pair room R printed-flat))
+  by-verdict verdict.Empty depth room D deep is r T =
+      let within = depth-within (jobTable j) (j .condition) (j .needs) depth (fit .condition) (D .0) deep in
+      own.empty (subst (Begins verdict.Empty) (sym is) (empty-begins depth (j .condition) room))
+      (checks-once text printed r (checked.Refused 51 0) T (empty-told (empty-said depth room within is)))
+  by-verdict (verdict.Refused number place) depth room D deep is r T = absurd D
 
 -- ---- every job text
 
 by-reply : (text printed : List ℕ) (r : Checked) → Checks text printed r → Answered text printed ⊎ RefusedFor text printed → OwnSaid text printed r
-by-reply text printed r T (inl A) = by-verdict text printed (A .asked) (A .read) (A .sound) (A .verdict) (A .room) (A .decided) (A .is) r T
+by-reply text printed r T (inl A) = by-verdict text printed (A .asked) (A .read) (A .sound) (A .verdict) (A .depth) (A .room) (A .decided) (A .deep) (A .is) r T
 by-reply text printed r T (inr F) =
     own.refused (F .number) (F .place) (F .cause) (F .is) (told-again (readJob text) printed (F .number) (F .place) r (F .cause) T)
 

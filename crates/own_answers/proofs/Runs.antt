@@ -1,4 +1,5 @@
--- A printed run is one of the form's runs: it says the lasso that the judge found, with the pair that it names. Assumes nothing.
+-- A printed run is one of the form's runs: it says the lasso that the judge found, with the pair that it names. And what is printed is within the form's numbers.
+-- Assumes nothing.
 use mathlib.Core.Path.{_≡_, sym, ap, _∙_}
 use mathlib.Core.Bool.{false, false≢true}
 use mathlib.Core.Logic.{inl, inr}
@@ -9,15 +10,17 @@ use lib.ListN.{length, replicate}
 use lib.Seq.{take-append-seam, drop-append-seam, take-length}
 use Rattle.table.specs.declared.Acceptance.{Acceptance}
 use Rattle.table.specs.declared.Acceptance.the-variants.{Buchi, Streett, Rabin}
-use Rattle.table.specs.declared.Verdict.the-variants.{Run}
+use Rattle.table.specs.declared.Verdict.the-variants.{Run, Empty}
 use Rattle.table.specs.Table.{Table, Step, Walk, marksOf}
-use Rattle.table.specs.Condition.{Accepts}
+use Rattle.table.specs.Condition.{Accepts, Empty as NoLasso}
 use Rattle.table.specs.Refusal.{mostEdges, wrongCondition}
-use Rattle.table.proofs.Sound.{rabin-few}
+use Rattle.table.proofs.Sound.{used-few, rabin-few}
 use Rattle.job_text.specs.Value.{mostNumber}
 use Rattle.answer_text.specs.Printed.{isRabin, answerText}
+use Rattle.hunting.specs.Depth.{Deep}
 use Rattle.judging.specs.Answer.{Named, RunSays}
-use Rattle.answer_check.specs.Form.{Within, OurRun, run, Says}
+use Rattle.judging.proofs.Depths.{depth-few}
+use Rattle.answer_form.specs.Form.{Within, OurRun, run, Says}
 use Rattle.answer_check.specs.Fault.{Meets}
 
 -- ---- numbers at most 65,535
@@ -38,6 +41,13 @@ pair-within t (Buchi k) needs cycle pair w e = omega (arith, e)
 pair-within t (Streett p) needs cycle pair w e = omega (arith, e)
 pair-within t (Rabin p) needs cycle pair w l = omega (arith, l .below, rabin-few p needs w)
 
+-- .. and the depth
+pub depth-within : (t : Table) (c : Acceptance) (needs : List ℕ) (depth : ℕ) → wrongCondition c needs ≡ false → NoLasso t c needs → Deep t c Empty depth
+    → depth ≤ mostNumber
+depth-within t (Buchi k) needs depth w none e = omega (arith, e)
+depth-within t (Streett p) needs depth w none D = omega (arith, depth-few needs none D, used-few (Streett p) needs w)
+depth-within t (Rabin p) needs depth w none e = omega (arith, e)
+
 -- 0 unless the kind is Rabin
 no-pair : (t : Table) (c : Acceptance) (needs cycle : List ℕ) (pair : ℕ) → Named t c needs cycle pair → isRabin c ≡ false → pair ≡ 0
 no-pair t (Buchi k) needs cycle pair e f = e
@@ -55,7 +65,7 @@ named-met t (Rabin p) needs cycle pair a l = (l .below, l .met)
 
 -- of the room only prefix and cycle are printed
 lists-printed : (c : Acceptance) (pair : ℕ) (p q rest : List ℕ)
-    → answerText (Run (length p) (length q) pair) c (p ++ (q ++ rest)) ≡ answerText (Run (length p) (length q) pair) c (p ++ q)
+    → answerText (Run (length p) (length q) pair) 0 c (p ++ (q ++ rest)) ≡ answerText (Run (length p) (length q) pair) 0 c (p ++ q)
 unfolding answerText
 lists-printed c pair p q rest =
     rw (take-append-seam p (q ++ rest), drop-append-seam p (q ++ rest), take-append-seam q rest, take-append-seam p q, drop-append-seam p q, take-length q)
@@ -74,10 +84,10 @@ module _ (t : Table) (c : Acceptance) (needs : List ℕ) (few : t .edges ≤ mos
 
   -- its text says the lasso that the judge found
   pub run-says : {p q pair : ℕ} {room : List ℕ} (R : RunSays t c needs p q pair room)
-      → Says c (answerText (Run p q pair) c room) (run pair (R .prefix) (R .cycle))
+      → Says c (answerText (Run p q pair) 0 c room) (run pair (R .prefix) (R .cycle))
   run-says {p} {q} {pair} {room} R =
       record {
         ours = our-run R;
-        prints = rw (sym (R .prefix-is), sym (R .cycle-is)) (ap (answerText (Run (length (R .prefix)) (length (R .cycle)) pair) c) (R .cells)
+        prints = rw (sym (R .prefix-is), sym (R .cycle-is)) (ap (answerText (Run (length (R .prefix)) (length (R .cycle)) pair) 0 c) (R .cells)
             ∙ lists-printed c pair (R .prefix) (R .cycle) (replicate (length room - (p + q)) 0));
       }

@@ -15,7 +15,7 @@ use Rattle.answer_text.specs.Printed.{shown, prefix=, cycle=, listText, topText
 use Rattle.answer_text.proofs.Prints.{shown-length}
 use Rattle.answer_check.specs.declared.Checked.{Checked}
 use Rattle.answer_check.specs.declared.Checked.the-variants.{Refused}
-use Rattle.answer_check.specs.Form.{Said, run, verdictOf, roomOf, Says}
+use Rattle.answer_form.specs.Form.{Said, run, verdictOf, roomOf, Says}
 use Rattle.answer_check.specs.Checking.{Told, malformed, no-run, run-judged, ByCause, ByJob, Checks}
 use Rattle.check_text.specs.Split.{jobPart, answerPart, mostAnswer, heard}
 use Rattle.check_text.specs.Replied.{CheckReplied}

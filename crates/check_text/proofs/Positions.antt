@@ -19,7 +19,7 @@ use Rattle.answer_check.specs.declared.Checked.{Checked}
 use Rattle.answer_check.specs.declared.Checked.the-variants.{Accepted, Rejected, Refused}
 use Rattle.answer_check.specs.declared.Fault.{Fault}
 use Rattle.answer_check.specs.declared.Fault.the-variants.{Prefix, Empty, Cycle, Condition}
-use Rattle.answer_check.specs.Form.{run, Says, verdictOf, roomOf}
+use Rattle.answer_form.specs.Form.{run, Says, verdictOf, roomOf}
 use Rattle.answer_check.specs.Fault.{Breaks, Open, Judged}
 use Rattle.answer_check.specs.Checking.{Told, malformed, no-run, run-judged, ByCause, ByJob, Checks}
 use Rattle.check_text.specs.Split.{mostAnswer}

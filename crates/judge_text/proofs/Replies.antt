@@ -14,7 +14,7 @@ use Rattle.job_text.specs.Job.{mostBytes, Job, Outcome, job, fault, readJob}
 use Rattle.answer_text.specs.Printed.{topText, answerText, refusedText, mostPrinted}
 use Rattle.job_text.proofs.Jobs.{too-long}
 use Rattle.job_text.specs.Asked.{jobTable, firstCause}
-use Rattle.hunting.specs.Depth.{Deep}
+use Rattle.erasing.specs.Depth.{Deep}
 use Rattle.judge_text.specs.Replied.{JobReply, ReplyTo, Replied}
 use Rattle.judge_text.specs.Reply.{RefusedFor, Answered}
 use Rattle.judge_text.proofs.Limits.{Bounded, read-bounded}

@@ -11,7 +11,7 @@ use Rattle.table.specs.declared.Verdict.the-variants.{Run}
 use Rattle.job_text.specs.Job.{Job, job, readJob}
 use Rattle.job_text.specs.Asked.{jobTable, firstCause}
 use Rattle.answer_text.specs.Printed.{topText, bottomText, answerText, refusedText}
-use Rattle.hunting.specs.Depth.{Deep}
+use Rattle.erasing.specs.Depth.{Deep}
 use Rattle.judging.specs.Answer.{Decided}
 
 -- a row of the table of causes that a text can come to: 1 to 7, 20 to 23

@@ -16,7 +16,7 @@ use Rattle.job_text.specs.Value.{mostNumber}
 use Rattle.job_text.specs.Job.{Job, Outcome, job, fault, readJob}
 use Rattle.job_text.specs.Asked.{jobTable, edgeCells, firstCause}
 use Rattle.answer_text.specs.Printed.{topText, answerText, refusedText, mostPrinted}
-use Rattle.hunting.specs.Depth.{Deep}
+use Rattle.erasing.specs.Depth.{Deep}
 use Rattle.judging.specs.Answer.{Decided, RunSays}
 use Rattle.judge_text.specs.Replied.{Holds, Replied}
 use Rattle.judge_text.specs.Reply.{RefusedFor, Answered}

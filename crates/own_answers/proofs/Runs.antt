@@ -17,7 +17,7 @@ use Rattle.table.specs.Refusal.{mostEdges, wrongCondition}
 use Rattle.table.proofs.Sound.{used-few, rabin-few}
 use Rattle.job_text.specs.Value.{mostNumber}
 use Rattle.answer_text.specs.Printed.{isRabin, answerText}
-use Rattle.hunting.specs.Depth.{Deep}
+use Rattle.erasing.specs.Depth.{Deep}
 use Rattle.judging.specs.Answer.{Named, RunSays}
 use Rattle.judging.proofs.Depths.{depth-few}
 use Rattle.answer_form.specs.Form.{Within, OurRun, run, Says}

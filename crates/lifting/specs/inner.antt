@@ -1,11 +1,11 @@
 -- What the writing functions ask and promise: cells written one behind the other, the rest as it was. Assumes nothing.
 use mathlib.Core.Path.{_≡_}
 use mathlib.Core.List.{List, _++_}
-use Prim.Native.Nat.{ℕ, suc, _+_, _-_, _*_, _≤_, _<_}
+use Prim.Native.Nat.{ℕ, _+_, _-_, _≤_, _<_}
 use lib.ListN.{length, getD, replicate}
 use lib.Seq.{sets}
 use Rattle.table.specs.Table.{Table}
-use Rattle.climbing.specs.Climb.{levels, number, landing, bearing}
+use Rattle.climbing.specs.Climb.{number, landing, bearing}
 use Rattle.climbing.specs.Place.{cells, each, rowCells}
 use Rattle.climbing.specs.Translated.{liftedFrom, liftedTo, liftedMarks}
 

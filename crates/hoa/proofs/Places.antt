@@ -12,7 +12,7 @@ use Rattle.hoa_step.specs.Machine.{Step, go, done, wrong, End, doneAt, wrongAt,
 use Rattle.hoa_head.specs.declared.Head.{Head}
 use Rattle.hoa_head.specs.Heading.{opening, headStep}
 use Rattle.hoa_head.specs.Headed.{headEnd}
-use Rattle.hoa_rows.specs.Rows.{Kept, noRows, entries, rowStep}
+use Rattle.hoa_entry.specs.Rows.{Kept, noRows, entries, rowStep}
 use Rattle.hoa.specs.Reading.{limitsOf, rowsSay, headSays, readHoa}
 
 -- ---- the tokens

@@ -14,10 +14,10 @@ use Rattle.hoa_head.specs.declared.HeadEnd.{HeadEnd}
 use Rattle.hoa_head.specs.declared.HeadEnd.the-variants as head-end
 use Rattle.hoa_head.specs.declared.HeadRead.{HeadRead}
 use Rattle.hoa_head.specs.Headed.{headEnd, Ends, Headed}
-use Rattle.hoa_rows.specs.declared.Limits.{Limits}
+use Rattle.hoa_entry.specs.declared.Limits.{Limits}
 use Rattle.hoa_rows.specs.declared.RowsRead.{RowsRead}
 use Rattle.hoa_rows.specs.declared.RowsRead.the-variants as rows-read
-use Rattle.hoa_rows.specs.Rows as spec
+use Rattle.hoa_entry.specs.Rows as spec
 use Rattle.hoa_rows.specs.Lent.{rowsEnd, edgesOf, fits, told, cellsOf, RowsInto}
 use Rattle.hoa.specs.declared.Hoa.{Hoa}
 use Rattle.hoa.specs.declared.HoaFinding.the-variants.{Read, Refused}

@@ -22,9 +22,9 @@ use Rattle.hoa_step.specs.declared.Given.{Given}
 use Rattle.hoa_step.specs.declared.Given.the-variants.{Not, Value}
 use Rattle.hoa_step.specs.Given.{isGiven, notBelow, notAbove}
 use Rattle.hoa_step.specs.Machine.{Step, go, done, wrong, End, doneAt, wrongAt, cut, endBy, run, wantsInt, wantsText}
-use Rattle.hoa_formula.specs.Standard.{FormulaMeaning, standard, short}
-use Rattle.hoa_formula.specs.Formulas as formula
-use Rattle.hoa_formula.specs.Formulas.{FormulaState, FormulaStep, formulaBegin, formulaStep}
+use Rattle.hoa_standard.specs.Standard.{FormulaMeaning, standard, short}
+use Rattle.hoa_standard.specs.Formulas as formula
+use Rattle.hoa_standard.specs.Formulas.{FormulaState, FormulaStep, formulaBegin, formulaStep}
 use Rattle.hoa_head.specs.declared.Head.{Head}
 use Rattle.hoa_head.specs.declared.Piece.{Piece}
 use Rattle.hoa_head.specs.declared.Piece.the-variants as piece-is

@@ -15,7 +15,7 @@ use Rattle.hoa_tokens.specs.declared.Sign.the-variants as sign-is
 use Rattle.hoa_tokens.specs.Token.{Token, int, word, header, str, aname, sign, body, end, abort, finish, bad}
 use Rattle.job_text.specs.Job.{mostJobStates}
 use Rattle.hoa_formula.specs.Cond.{condText}
-use Rattle.hoa_formula.specs.Formulas.{formulaBegin}
+use Rattle.hoa_standard.specs.Formulas.{formulaBegin}
 use Rattle.hoa_step.specs.Machine.{Step, go, done, wrong, wantsInt, wantsText}
 use Rattle.hoa_step.specs.Given.{isGiven, notBelow, notAbove}
 use Rattle.hoa_head.specs.declared.Head.{Head}

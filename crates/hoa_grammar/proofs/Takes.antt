@@ -8,7 +8,7 @@ use lib.ListN.{length}
 use Rattle.table.specs.declared.Acceptance.{Acceptance}
 use Rattle.hoa_tokens.specs.declared.Word.{Word}
 use Rattle.hoa_formula.specs.Cond.{Cond}
-use Rattle.hoa_formula.specs.Standard.{mostPairs}
+use Rattle.hoa_standard.specs.Standard.{mostPairs}
 use Rattle.job_text.specs.Job.{mostJobStates}
 use Rattle.hoa_step.specs.Given.{isGiven, notBelow, notAbove}
 use Rattle.hoa_head.specs.declared.Head.{Head}

@@ -8,9 +8,9 @@ use borrow.Author.Tests.{lt-ltb, le-ltb}
 use Rattle.table.specs.declared.Acceptance.{Acceptance}
 use Rattle.hoa_tokens.specs.Token.{int}
 use Rattle.hoa_tokens.specs.Stream.{Placed, tokensAt}
-use Rattle.hoa_formula.specs.Formulas as formula
-use Rattle.hoa_formula.specs.Standard.{standard, short}
-use Rattle.hoa_formula.specs.Formulas.{FormulaState, formulaBegin, formulaStep, formulaRun, FormulaStep, FormulaEnd, onward}
+use Rattle.hoa_standard.specs.Formulas as formula
+use Rattle.hoa_standard.specs.Standard.{standard, short}
+use Rattle.hoa_standard.specs.Formulas.{FormulaState, formulaBegin, formulaStep, formulaRun, FormulaStep, FormulaEnd, onward}
 use Rattle.hoa_formula.specs.declared.FormulaRead.{FormulaRead}
 use Rattle.hoa_formula.specs.declared.FormulaFound.{FormulaFound}
 use Rattle.hoa_formula.specs.declared.FormulaFound.the-variants as found-is

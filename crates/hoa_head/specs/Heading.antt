@@ -12,9 +12,9 @@ use Rattle.hoa_tokens.specs.declared.Sign.{Sign}
 use Rattle.hoa_tokens.specs.declared.Sign.the-variants as sign-is
 use Rattle.hoa_tokens.specs.Bytes.{same}
 use Rattle.hoa_tokens.specs.Token.{Token, int, word, header, str, aname, sign, body, end, abort, finish, bad}
-use Rattle.hoa_formula.specs.Formulas as formula
-use Rattle.hoa_formula.specs.Standard.{FormulaMeaning, standard, short}
-use Rattle.hoa_formula.specs.Formulas.{FormulaState, formulaBegin, formulaStep, FormulaStep}
+use Rattle.hoa_standard.specs.Formulas as formula
+use Rattle.hoa_standard.specs.Standard.{FormulaMeaning, standard, short}
+use Rattle.hoa_standard.specs.Formulas.{FormulaState, formulaBegin, formulaStep, FormulaStep}
 use Rattle.hoa_head.specs.declared.Head.{Head}
 use Rattle.hoa_head.specs.declared.Piece.{Piece}
 use Rattle.hoa_head.specs.declared.Piece.the-variants as piece-is

@@ -9,7 +9,7 @@ use Rattle.job_text.specs.Job.{Outcome, job, fault}
 use Rattle.hoa_tokens.specs.Stream.{tokensAt}
 use Rattle.hoa_step.specs.Given.{givenOr}
 use Rattle.hoa_step.specs.Machine.{End, doneAt, wrongAt, cut}
-use Rattle.hoa_head.specs.declared.Head.{Head}
+use Rattle.hoa_value.specs.declared.Head.{Head}
 use Rattle.hoa_head.specs.declared.HeadEnd.{HeadEnd}
 use Rattle.hoa_head.specs.declared.HeadEnd.the-variants as head-end
 use Rattle.hoa_head.specs.declared.HeadRead.{HeadRead}

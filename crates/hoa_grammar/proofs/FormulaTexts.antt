@@ -69,9 +69,9 @@ use Rattle.hoa_formula.proofs.Sound as sounds
 use Rattle.hoa_formula.proofs.Accepted.{over-stands, limit-over, limit-go}
 use Rattle.hoa_formula.proofs.Conds.{std-cond}
 use Rattle.hoa_standard.specs.declared.Piece.the-variants as piece-is
-use Rattle.hoa_head.specs.declared.Head.{Head}
-use Rattle.hoa_head.specs.Head.{withMarks}
-use Rattle.hoa_head.specs.Heading.{HeadState, items, inFormula, headStep, onFormula}
+use Rattle.hoa_value.specs.declared.Head.{Head}
+use Rattle.hoa_value.specs.Head.{withMarks}
+use Rattle.hoa_value.specs.Heading.{HeadState, items, inFormula, headStep, onFormula}
 use Rattle.hoa_grammar.specs.Subset.{StandardAs, pairsIn}
 use Rattle.hoa_grammar.specs.Walk.{Walk, walk, walkBy}
 use Rattle.hoa_grammar.proofs.Onward.{Onward, same, limit, onward-then, onward-from}

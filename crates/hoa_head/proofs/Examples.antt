@@ -9,8 +9,8 @@ use Rattle.hoa_tokens.specs.Stream.{gapOf, placed, first, some, tokensAt}
 use Rattle.hoa_standard.specs.Standard.{noNeeds}
 use Rattle.hoa_standard.specs.Formulas.{formulaBegin, formulaStep, freeStep, meaningOf, pieceOf as formulaPiece}
 use Rattle.hoa_step.specs.Machine.{doneAt, wrongAt, run, wantsInt, wantsText}
-use Rattle.hoa_head.specs.Head.{blank, withStart, withMarks}
-use Rattle.hoa_head.specs.Heading.{headStep, pieceOf, onOpening, onVersion, onNames}
+use Rattle.hoa_value.specs.Head.{blank, withStart, withMarks}
+use Rattle.hoa_value.specs.Heading.{headStep, pieceOf, onOpening, onVersion, onNames}
 use Rattle.hoa_head.specs.Headed.{headEnd}
 
 pub record Examples : Type 0 where

@@ -17,10 +17,10 @@ use Rattle.hoa_step.specs.declared.Given.{Given}
 use Rattle.hoa_step.specs.declared.Given.the-variants.{Not, Value}
 use Rattle.hoa_step.specs.Given.{isGiven, givenOr}
 use Rattle.hoa_step.specs.Machine.{End, doneAt, wrongAt, cut, run}
-use Rattle.hoa_head.specs.declared.Head.{Head}
+use Rattle.hoa_value.specs.declared.Head.{Head}
 use Rattle.hoa_head.specs.Headed.{headEnd}
-use Rattle.hoa_rows.specs.Rows.{Kept, noRows, entries, rowStep}
-use Rattle.hoa_rows.specs.Sorted.{sorted}
+use Rattle.hoa_entry.specs.Rows.{Kept, noRows, entries, rowStep}
+use Rattle.hoa_kept.specs.Sorted.{sorted}
 use Rattle.hoa_rows.specs.Worth.{Fits, AllFit, Agrees, Worth}
 use Rattle.hoa_rows.proofs.Worth.{worth-of}
 use Rattle.hoa_rows.proofs.Handing.{sorted-all}

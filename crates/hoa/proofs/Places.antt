@@ -9,10 +9,10 @@ use Rattle.hoa_tokens.specs.Token.{Token, int, word, header, str, aname, sign, 
 use Rattle.hoa_tokens.specs.Stream.{Placed, first, unlessFinished, some as upTo, tokensAt}
 use Rattle.hoa_tokens.proofs.Next.{Stands, over, there, stands}
 use Rattle.hoa_step.specs.Machine.{Step, go, done, wrong, End, doneAt, wrongAt, cut, endBy, run}
-use Rattle.hoa_head.specs.declared.Head.{Head}
-use Rattle.hoa_head.specs.Heading.{opening, headStep}
+use Rattle.hoa_value.specs.declared.Head.{Head}
+use Rattle.hoa_value.specs.Heading.{opening, headStep}
 use Rattle.hoa_head.specs.Headed.{headEnd}
-use Rattle.hoa_rows.specs.Rows.{Kept, noRows, entries, rowStep}
+use Rattle.hoa_entry.specs.Rows.{Kept, noRows, entries, rowStep}
 use Rattle.hoa.specs.Reading.{limitsOf, rowsSay, headSays, readHoa}
 
 -- ---- the tokens

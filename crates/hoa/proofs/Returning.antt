@@ -9,15 +9,15 @@ use Rattle.job_text.specs.Job.{Outcome, job, fault}
 use Rattle.hoa_tokens.specs.Stream.{tokensAt}
 use Rattle.hoa_step.specs.Given.{givenOr}
 use Rattle.hoa_step.specs.Machine.{End, doneAt, wrongAt, cut}
-use Rattle.hoa_head.specs.declared.Head.{Head}
+use Rattle.hoa_value.specs.declared.Head.{Head}
 use Rattle.hoa_head.specs.declared.HeadEnd.{HeadEnd}
 use Rattle.hoa_head.specs.declared.HeadEnd.the-variants as head-end
 use Rattle.hoa_head.specs.declared.HeadRead.{HeadRead}
 use Rattle.hoa_head.specs.Headed.{headEnd, Ends, Headed}
-use Rattle.hoa_rows.specs.declared.Limits.{Limits}
+use Rattle.hoa_entry.specs.declared.Limits.{Limits}
 use Rattle.hoa_rows.specs.declared.RowsRead.{RowsRead}
 use Rattle.hoa_rows.specs.declared.RowsRead.the-variants as rows-read
-use Rattle.hoa_rows.specs.Rows as spec
+use Rattle.hoa_entry.specs.Rows as spec
 use Rattle.hoa_rows.specs.Lent.{rowsEnd, edgesOf, fits, told, cellsOf, RowsInto}
 use Rattle.hoa.specs.declared.Hoa.{Hoa}
 use Rattle.hoa.specs.declared.HoaFinding.the-variants.{Read, Refused}

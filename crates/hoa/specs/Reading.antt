@@ -3,13 +3,13 @@ use mathlib.Core.List.{List, []}
 use Prim.Native.Nat.{ℕ}
 use Rattle.job_text.specs.Value.{Edge}
 use Rattle.job_text.specs.Job.{Job, Outcome, job, fault}
-use Rattle.hoa_head.specs.declared.Head.{Head}
-use Rattle.hoa_rows.specs.declared.Limits.{Limits}
+use Rattle.hoa_value.specs.declared.Head.{Head}
+use Rattle.hoa_entry.specs.declared.Limits.{Limits}
 use Rattle.hoa_step.specs.Given.{givenOr}
 use Rattle.hoa_step.specs.Machine.{End, doneAt, wrongAt, cut, run}
 use Rattle.hoa_head.specs.Headed.{headEnd}
-use Rattle.hoa_rows.specs.Rows.{Kept, noRows, entries, rowStep}
-use Rattle.hoa_rows.specs.Sorted.{sorted}
+use Rattle.hoa_entry.specs.Rows.{Kept, noRows, entries, rowStep}
+use Rattle.hoa_kept.specs.Sorted.{sorted}
 
 -- "Without AP: a is 0"
 abbrev pub limitsOf : Head → Limits

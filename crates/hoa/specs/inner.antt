@@ -2,7 +2,7 @@
 use mathlib.Core.Path.{_≡_}
 use mathlib.Core.List.{List}
 use Prim.Native.Nat.{ℕ}
-use Rattle.hoa_head.specs.declared.Head.{Head}
+use Rattle.hoa_value.specs.declared.Head.{Head}
 use Rattle.hoa_rows.specs.Lent.{rowsEnd}
 use Rattle.hoa.specs.declared.Hoa.{Hoa}
 use Rattle.hoa.specs.Reading.{limitsOf, rowsSay}

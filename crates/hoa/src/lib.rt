@@ -1,12 +1,12 @@
 // Reads a text of the Hanoi format into lent tables (docs/RULES.md, "The Hanoi format"): the header by `hoa_head`, the rows by `hoa_rows`.
 // What each text says is in specs/.
-use hoa_head::Head;
+use hoa_entry::Limits;
 use hoa_head::HeadEnd;
 use hoa_head::read_head;
-use hoa_rows::Limits;
 use hoa_rows::RowsRead;
 use hoa_rows::read_rows;
 use hoa_step::Given;
+use hoa_value::Head;
 use table::Acceptance;
 ghost use mathlib.Core.Path.{_≡_};
 ghost use Rattle.hoa_step.specs.Given.{givenOr};

@@ -10,14 +10,14 @@ use lib.ListN.{length}
 use Rattle.table.specs.declared.Acceptance.{Acceptance}
 use Rattle.hoa_tokens.specs.Token.{Token}
 use Rattle.hoa_tokens.specs.Stream.{Placed}
-use Rattle.hoa_formula.specs.declared.machine.Piece.{Piece}
-use Rattle.hoa_formula.specs.declared.machine.Piece.the-variants as piece-is
-use Rattle.hoa_formula.specs.Standard.{FormulaMeaning, standard, short, stdText, stdMeaning}
-use Rattle.hoa_formula.specs.Machines.{Wants, Behind, wantsOpen, wantsInf, wantsFin, wantsTruth, behindClose, behindAnd, behindOr, someWants, someBehind}
-use Rattle.hoa_formula.specs.Formulas.{FormulaState, FormulaStep, go, over, wrong, FormulaEnd, overAt, wrongAt, cut, state, Stage, operand, named, bracket, number, after}
-use Rattle.hoa_formula.specs.Formulas.{pieceOf, needsInf, needsFin, meaningOf}
-use Rattle.hoa_formula.specs.Formulas.{goWants, goNamed, goAfter, ends, closes, onOperand, onNamed, onBracket, onNumber, onAfter, onStage, freeStep, tooMany, limited}
-use Rattle.hoa_formula.specs.Formulas.{formulaStep, formulaBegin, onward, formulaRun}
+use Rattle.hoa_standard.specs.declared.Piece.{Piece}
+use Rattle.hoa_standard.specs.declared.Piece.the-variants as piece-is
+use Rattle.hoa_standard.specs.Standard.{FormulaMeaning, standard, short, stdText, stdMeaning}
+use Rattle.hoa_standard.specs.Machines.{Wants, Behind, wantsOpen, wantsInf, wantsFin, wantsTruth, behindClose, behindAnd, behindOr, someWants, someBehind}
+use Rattle.hoa_standard.specs.Formulas.{FormulaState, FormulaStep, go, over, wrong, FormulaEnd, overAt, wrongAt, cut, state, Stage, operand, named, bracket, number, after}
+use Rattle.hoa_standard.specs.Formulas.{pieceOf, needsInf, needsFin, meaningOf}
+use Rattle.hoa_standard.specs.Formulas.{goWants, goNamed, goAfter, ends, closes, onOperand, onNamed, onBracket, onNumber, onAfter, onStage, freeStep, tooMany, limited}
+use Rattle.hoa_standard.specs.Formulas.{formulaStep, formulaBegin, onward, formulaRun}
 use Rattle.hoa_formula.specs.Walking.{andOn, freeWalk, Stands, Begins}
 use Rattle.hoa_formula.proofs.Admitted.{complete}
 use Rattle.hoa_formula.proofs.Sound.{IsFormula, sound}

@@ -12,20 +12,20 @@ use Rattle.hoa_tokens.specs.declared.Word.{Word}
 use Rattle.hoa_tokens.specs.declared.Word.the-variants as word-is
 use Rattle.hoa_tokens.specs.Token.{Token}
 use Rattle.table.specs.declared.Acceptance.the-variants as acceptance
-use Rattle.hoa_formula.specs.declared.machine.Piece.{Piece}
-use Rattle.hoa_formula.specs.declared.machine.Piece.the-variants as piece-is
-use Rattle.hoa_formula.specs.Standard.{left, right, both, either, atom, Infs, Infop, infsEnd, infopEnd, infsText, infopText, infsCount, infopCount, FormulaMeaning}
-use Rattle.hoa_formula.specs.Standard.{standard, short}
-use Rattle.hoa_formula.specs.Standard.{Pair, Phead, pairEnd, pheadEnd, pairText, pheadText, pairNeed, pheadNeed, Rabin, Rabop, rabinEnd, rabopEnd, rabinText, rabopText}
-use Rattle.hoa_formula.specs.Standard.{rabinNeeds, rabopNeeds}
-use Rattle.hoa_formula.specs.Standard.{Single, Spair, Streett, Strop, streettEnd, stropEnd, singleText, spairText, streettText, stropText, Truth, truthText, truthMeaning}
-use Rattle.hoa_formula.specs.Standard.{Std, stdText, IsStd, stdMeaning, rabinMeaning, noNeeds}
-use Rattle.hoa_formula.specs.Machines.{Buchi, RabinWants, RabinBehind, StreettWants, StreettBehind, Bare, TruthWants, TruthBehind, Wants, Behind, begin}
-use Rattle.hoa_formula.specs.Machines.{wantsOpen, wantsInf, wantsFin, wantsTruth, behindClose, behindAnd, behindOr, someWants, someBehind}
-use Rattle.hoa_formula.specs.Machines.{rabinOpen, rabinInf, rabinClose, rabinOr, buchiLive, rabinWanting, rabinLive, streettWanting, streettLive, bareLive, truthWanting}
-use Rattle.hoa_formula.specs.Machines.{truthLive, buchiDone, rabinDone, streettDone, bareDone}
-use Rattle.hoa_formula.specs.Formulas.{FormulaState, FormulaStep, go, wrong, state, operand, named, bracket, number, after, wordPiece, pieceOf, onOperand, needsInf}
-use Rattle.hoa_formula.specs.Formulas.{needsFin, byDone, truthDone, meaningOf, freeStep, formulaBegin}
+use Rattle.hoa_standard.specs.declared.Piece.{Piece}
+use Rattle.hoa_standard.specs.declared.Piece.the-variants as piece-is
+use Rattle.hoa_standard.specs.Standard.{left, right, both, either, atom, Infs, Infop, infsEnd, infopEnd, infsText, infopText, infsCount, infopCount, FormulaMeaning}
+use Rattle.hoa_standard.specs.Standard.{standard, short}
+use Rattle.hoa_standard.specs.Standard.{Pair, Phead, pairEnd, pheadEnd, pairText, pheadText, pairNeed, pheadNeed, Rabin, Rabop, rabinEnd, rabopEnd, rabinText, rabopText}
+use Rattle.hoa_standard.specs.Standard.{rabinNeeds, rabopNeeds}
+use Rattle.hoa_standard.specs.Standard.{Single, Spair, Streett, Strop, streettEnd, stropEnd, singleText, spairText, streettText, stropText, Truth, truthText, truthMeaning}
+use Rattle.hoa_standard.specs.Standard.{Std, stdText, IsStd, stdMeaning, rabinMeaning, noNeeds}
+use Rattle.hoa_standard.specs.Machines.{Buchi, RabinWants, RabinBehind, StreettWants, StreettBehind, Bare, TruthWants, TruthBehind, Wants, Behind, begin}
+use Rattle.hoa_standard.specs.Machines.{wantsOpen, wantsInf, wantsFin, wantsTruth, behindClose, behindAnd, behindOr, someWants, someBehind}
+use Rattle.hoa_standard.specs.Machines.{rabinOpen, rabinInf, rabinClose, rabinOr, buchiLive, rabinWanting, rabinLive, streettWanting, streettLive, bareLive, truthWanting}
+use Rattle.hoa_standard.specs.Machines.{truthLive, buchiDone, rabinDone, streettDone, bareDone}
+use Rattle.hoa_standard.specs.Formulas.{FormulaState, FormulaStep, go, wrong, state, operand, named, bracket, number, after, wordPiece, pieceOf, onOperand, needsInf}
+use Rattle.hoa_standard.specs.Formulas.{needsFin, byDone, truthDone, meaningOf, freeStep, formulaBegin}
 use Rattle.hoa_formula.specs.Walking.{andOn, freeWalk, Stands}
 
 -- ---- some machine goes on

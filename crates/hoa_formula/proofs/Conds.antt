@@ -7,10 +7,10 @@ use Rattle.hoa_tokens.specs.declared.Word.the-variants as word-is
 use Rattle.hoa_tokens.specs.Token.{Token}
 use Rattle.hoa_formula.specs.Cond as section2
 use Rattle.hoa_formula.specs.Cond.{Cond, Cconj, Catom, condText, cconjText, catomText}
-use Rattle.hoa_formula.specs.Standard.{left, right, both, either, Infs, Infop, infsEnd, infopEnd, infsText, infopText, Pair, Phead, pairEnd, pheadEnd, pairText, pheadText}
-use Rattle.hoa_formula.specs.Standard.{Rabin, Rabop, rabinEnd, rabopEnd, rabinText, rabopText, Single, Spair, Streett, Strop, streettEnd, stropEnd, singleText, spairText}
-use Rattle.hoa_formula.specs.Standard.{streettText, stropText}
-use Rattle.hoa_formula.specs.Standard.{Truth, truthText, Std, stdText}
+use Rattle.hoa_standard.specs.Standard.{left, right, both, either, Infs, Infop, infsEnd, infopEnd, infsText, infopText, Pair, Phead, pairEnd, pheadEnd, pairText, pheadText}
+use Rattle.hoa_standard.specs.Standard.{Rabin, Rabop, rabinEnd, rabopEnd, rabinText, rabopText, Single, Spair, Streett, Strop, streettEnd, stropEnd, singleText, spairText}
+use Rattle.hoa_standard.specs.Standard.{streettText, stropText}
+use Rattle.hoa_standard.specs.Standard.{Truth, truthText, Std, stdText}
 
 infMark : ℕ → Catom
 infMark i = Catom.mark section2.inf false i

@@ -8,8 +8,8 @@ use Rattle.hoa_tokens.specs.Bytes.{bytes, same, isDigit, isCapital, isLetter, i
 use Rattle.hoa_tokens.specs.Token.{wordOf, furtherHeader, headerOf, spelt, isInt, number, named, quoted, at, fixed, signOf, front}
 use Rattle.hoa_tokens.specs.Stream.{gapOf, first, tokensAt}
 use Rattle.hoa_tokens.specs.Stream as stream
-use Rattle.hoa_formula.specs.Standard.{FormulaMeaning, standard, short, noNeeds, eightNeeds}
-use Rattle.hoa_formula.specs.Formulas.{FormulaEnd, overAt, wrongAt, cut, pieceOf, meaningOf, formulaBegin, freeStep, formulaStep, formulaRun}
+use Rattle.hoa_standard.specs.Standard.{FormulaMeaning, standard, short, noNeeds, eightNeeds}
+use Rattle.hoa_standard.specs.Formulas.{FormulaEnd, overAt, wrongAt, cut, pieceOf, meaningOf, formulaBegin, freeStep, formulaStep, formulaRun}
 
 -- what a run says, the tokens behind left out
 data Said : Type 0 where

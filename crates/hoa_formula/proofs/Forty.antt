@@ -8,15 +8,15 @@ use Prim.Native.Nat.{ℕ, zero, suc}
 use native.Mathlib.Omega.{arith}
 use lib.Dec.{eqb, ltb}
 use Rattle.hoa_tokens.specs.Token.{Token}
-use Rattle.hoa_formula.specs.declared.machine.Piece.{Piece}
-use Rattle.hoa_formula.specs.declared.machine.Piece.the-variants as piece-is
+use Rattle.hoa_standard.specs.declared.Piece.{Piece}
+use Rattle.hoa_standard.specs.declared.Piece.the-variants as piece-is
 use Rattle.hoa_formula.specs.Cond as section2
 use Rattle.hoa_formula.specs.Cond.{Cond, Cconj, Catom, condText, cconjText, catomText, nameWord, perhapsNot}
-use Rattle.hoa_formula.specs.Standard.{FormulaMeaning, left, right, both, either}
-use Rattle.hoa_formula.specs.Machines.{Wants, Behind, wantsOpen, wantsInf, wantsFin, wantsTruth, behindClose, behindAnd, behindOr, someWants, someBehind}
-use Rattle.hoa_formula.specs.Formulas.{FormulaState, FormulaStep, go, over, wrong, state, Stage, operand, named, bracket, number, after, pieceOf, needsInf, needsFin}
-use Rattle.hoa_formula.specs.Formulas.{meaningOf}
-use Rattle.hoa_formula.specs.Formulas.{ends, closes, onOperand, onNamed, onBracket, onNumber, onAfter, onStage, freeStep, formulaBegin}
+use Rattle.hoa_standard.specs.Standard.{FormulaMeaning, left, right, both, either}
+use Rattle.hoa_standard.specs.Machines.{Wants, Behind, wantsOpen, wantsInf, wantsFin, wantsTruth, behindClose, behindAnd, behindOr, someWants, someBehind}
+use Rattle.hoa_standard.specs.Formulas.{FormulaState, FormulaStep, go, over, wrong, state, Stage, operand, named, bracket, number, after, pieceOf, needsInf, needsFin}
+use Rattle.hoa_standard.specs.Formulas.{meaningOf}
+use Rattle.hoa_standard.specs.Formulas.{ends, closes, onOperand, onNamed, onBracket, onNumber, onAfter, onStage, freeStep, formulaBegin}
 use Rattle.hoa_formula.specs.Walking.{freeWalk}
 use Rattle.hoa_formula.proofs.Rests.{Went, opens, infs, fins, truths, brackets, numbers, shuts, closed, ands, ors, went, walked, go-is}
 

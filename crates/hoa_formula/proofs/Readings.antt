@@ -12,33 +12,33 @@ use Rattle.hoa_tokens.specs.declared.Found.{Found}
 use Rattle.hoa_tokens.specs.Token.{Token}
 use Rattle.hoa_tokens.specs.Stream.{Placed, placed, unlessFinished, tokensAt, tokenOf, TokenAt}
 use Rattle.hoa_tokens.proofs.Next.{tokens-next, token-takes, Moves}
-use Rattle.hoa_formula.specs.declared.machine.Piece.{Piece}
-use Rattle.hoa_formula.specs.declared.machine.Piece.the-variants as piece-is
-use Rattle.hoa_formula.specs.declared.machine.Ahead.{Ahead}
-use Rattle.hoa_formula.specs.declared.machine.Ahead.the-variants as ahead-is
-use Rattle.hoa_formula.specs.declared.machine.Past.{Past}
-use Rattle.hoa_formula.specs.declared.machine.Past.the-variants as past-is
-use Rattle.hoa_formula.specs.declared.step.Stage.{Stage}
-use Rattle.hoa_formula.specs.declared.step.Stage.the-variants as stage-is
-use Rattle.hoa_formula.specs.declared.step.Formula.{Formula}
-use Rattle.hoa_formula.specs.declared.step.Turn.{Turn}
-use Rattle.hoa_formula.specs.declared.step.Turn.the-variants as turn-is
-use Rattle.hoa_formula.specs.declared.needs.Needs.{Needs}
+use Rattle.hoa_standard.specs.declared.Piece.{Piece}
+use Rattle.hoa_standard.specs.declared.Piece.the-variants as piece-is
+use Rattle.hoa_standard.specs.declared.Ahead.{Ahead}
+use Rattle.hoa_standard.specs.declared.Ahead.the-variants as ahead-is
+use Rattle.hoa_standard.specs.declared.Past.{Past}
+use Rattle.hoa_standard.specs.declared.Past.the-variants as past-is
+use Rattle.hoa_turn.specs.declared.step.Stage.{Stage}
+use Rattle.hoa_turn.specs.declared.step.Stage.the-variants as stage-is
+use Rattle.hoa_turn.specs.declared.step.Formula.{Formula}
+use Rattle.hoa_turn.specs.declared.step.Turn.{Turn}
+use Rattle.hoa_turn.specs.declared.step.Turn.the-variants as turn-is
+use Rattle.hoa_turn.specs.declared.needs.Needs.{Needs}
 use Rattle.hoa_formula.specs.declared.Complete.{Complete}
 use Rattle.hoa_formula.specs.declared.Complete.the-variants as complete-is
 use Rattle.hoa_formula.specs.declared.FormulaFound.the-variants as found-is
 use Rattle.hoa_formula.specs.declared.FormulaRead.{FormulaRead}
-use Rattle.hoa_formula.specs.Standard.{FormulaMeaning, short, mostPairs, noNeeds, eightNeeds, rabinMeaning}
-use Rattle.hoa_formula.specs.Machines.{Buchi, RabinBehind, StreettBehind, Bare, TruthBehind}
-use Rattle.hoa_formula.specs.Formulas.{byDone, FormulaState, FormulaStep, FormulaEnd, overAt, wrongAt, onward, pieceOf, meaningOf, formulaStep, formulaBegin, formulaRun}
+use Rattle.hoa_standard.specs.Standard.{FormulaMeaning, short, mostPairs, noNeeds, eightNeeds, rabinMeaning}
+use Rattle.hoa_standard.specs.Machines.{Buchi, RabinBehind, StreettBehind, Bare, TruthBehind}
+use Rattle.hoa_standard.specs.Formulas.{byDone, FormulaState, FormulaStep, FormulaEnd, overAt, wrongAt, onward, pieceOf, meaningOf, formulaStep, formulaBegin, formulaRun}
 use Rattle.hoa_formula.specs.Reading.{foundSays, foundPlace, foundNeeds, FormulaAt}
-use Rattle.hoa_formula.specs.inner.Sides.{behind, aheadWithin, pastWithin, pastIs, ifEven, ifTwo, firstStreett, bracketRoom}
-use Rattle.hoa_formula.specs.inner.Turns as turns
-use Rattle.hoa_formula.specs.inner.Turns.{stageWithin, stateOf, turnOf, formula, Within, turnAt}
-use Rattle.hoa_formula.specs.inner.Counts.{Counts, Bounded, tally, countedTo}
+use Rattle.hoa_standard.specs.inner.Sides.{behind, aheadWithin, pastWithin, pastIs, ifEven, ifTwo, firstStreett, bracketRoom}
+use Rattle.hoa_turn.specs.inner.Turns as turns
+use Rattle.hoa_turn.specs.inner.Turns.{stageWithin, stateOf, turnOf, formula, Within, turnAt}
+use Rattle.hoa_turn.specs.inner.Counts.{Counts, Bounded, tally, countedTo}
 use Rattle.hoa_formula.specs.inner.Ends.{kindPiece, ifNone, completeTo, completeMeaning, found, completeRead, pastRead, overRead}
-use Rattle.hoa_formula.proofs.Steps.{needsNext, meaningAt, turn-is-step}
-use Rattle.hoa_formula.proofs.Keeping.{Keeps, keeps}
+use Rattle.hoa_turn.proofs.Steps.{needsNext, meaningAt, turn-is-step}
+use Rattle.hoa_turn.proofs.Keeping.{Keeps, keeps}
 
 -- ---- tokens
 

@@ -11,13 +11,13 @@ use Rattle.hoa_tokens.specs.declared.Word.{Word}
 use Rattle.hoa_tokens.specs.declared.Word.the-variants as word-is
 use Rattle.hoa_tokens.specs.declared.Sign.the-variants as sign-is
 use Rattle.hoa_tokens.specs.Token.{Token, int, word, header, str, aname, sign, body, end, abort, finish, bad}
-use Rattle.hoa_formula.specs.declared.machine.Piece.{Piece}
-use Rattle.hoa_formula.specs.declared.machine.Piece.the-variants as piece-is
-use Rattle.hoa_formula.specs.Standard.{left, right, both, either, atom, FormulaMeaning}
-use Rattle.hoa_formula.specs.Machines.{Wants, Behind, wantsOpen, wantsInf, wantsFin, wantsTruth, behindClose, behindAnd, behindOr, someWants, someBehind}
-use Rattle.hoa_formula.specs.Formulas.{FormulaState, FormulaStep, go, over, wrong, state, Stage, operand, named, bracket, number, after, pieceOf, needsInf, needsFin}
-use Rattle.hoa_formula.specs.Formulas.{meaningOf}
-use Rattle.hoa_formula.specs.Formulas.{goWants, goNamed, goAfter, ends, closes, onOperand, onNamed, onBracket, onNumber, onAfter, onStage, freeStep}
+use Rattle.hoa_standard.specs.declared.Piece.{Piece}
+use Rattle.hoa_standard.specs.declared.Piece.the-variants as piece-is
+use Rattle.hoa_standard.specs.Standard.{left, right, both, either, atom, FormulaMeaning}
+use Rattle.hoa_standard.specs.Machines.{Wants, Behind, wantsOpen, wantsInf, wantsFin, wantsTruth, behindClose, behindAnd, behindOr, someWants, someBehind}
+use Rattle.hoa_standard.specs.Formulas.{FormulaState, FormulaStep, go, over, wrong, state, Stage, operand, named, bracket, number, after, pieceOf, needsInf, needsFin}
+use Rattle.hoa_standard.specs.Formulas.{meaningOf}
+use Rattle.hoa_standard.specs.Formulas.{goWants, goNamed, goAfter, ends, closes, onOperand, onNamed, onBracket, onNumber, onAfter, onStage, freeStep}
 use Rattle.hoa_formula.specs.Walking.{andOn, freeWalk}
 
 -- ---- which token it was

@@ -12,16 +12,16 @@ use Rattle.table.specs.declared.Acceptance.{Acceptance}
 use Rattle.hoa_tokens.specs.declared.Word.{Word}
 use Rattle.hoa_tokens.specs.declared.Word.the-variants as word-is
 use Rattle.hoa_tokens.specs.Token.{Token, word}
-use Rattle.hoa_formula.specs.declared.machine.Piece.{Piece}
-use Rattle.hoa_formula.specs.Standard.{left, right, both, either, atom, Infs, Infop, infsEnd, infopEnd, infsText, infopText, FormulaMeaning, standard, short}
-use Rattle.hoa_formula.specs.Standard.{Pair, Phead, pairEnd, pheadEnd, pairText, pheadText, Rabin, Rabop, rabinEnd, rabopEnd, rabinText, rabopText}
-use Rattle.hoa_formula.specs.Standard.{Single, Spair, Streett, Strop, streettEnd, stropEnd, singleText, spairText, streettText, stropText, Truth, truthText}
-use Rattle.hoa_formula.specs.Standard.{Std, stdText, IsStd, stdMeaning}
-use Rattle.hoa_formula.specs.Machines.{Buchi, RabinWants, RabinBehind, StreettWants, StreettBehind, Bare, TruthWants, TruthBehind, Wants, Behind, begin}
-use Rattle.hoa_formula.specs.Machines.{buchiOpen, buchiClose, rabinOpen, rabinInf, rabinFin, rabinClose, rabinAnd, rabinOr, streettOpen, streettInf, streettFin}
-use Rattle.hoa_formula.specs.Machines.{streettClose, streettAnd, streettOr}
-use Rattle.hoa_formula.specs.Machines.{bareOpen, bareInf, bareFin, bareClose, bareOr, truthOpen, truthIs, truthClose, buchiDone, rabinDone, streettDone, bareDone}
-use Rattle.hoa_formula.specs.Formulas.{FormulaState, go, Stage, after, pieceOf, truthDone, byDone, meaningOf, formulaBegin}
+use Rattle.hoa_standard.specs.declared.Piece.{Piece}
+use Rattle.hoa_standard.specs.Standard.{left, right, both, either, atom, Infs, Infop, infsEnd, infopEnd, infsText, infopText, FormulaMeaning, standard, short}
+use Rattle.hoa_standard.specs.Standard.{Pair, Phead, pairEnd, pheadEnd, pairText, pheadText, Rabin, Rabop, rabinEnd, rabopEnd, rabinText, rabopText}
+use Rattle.hoa_standard.specs.Standard.{Single, Spair, Streett, Strop, streettEnd, stropEnd, singleText, spairText, streettText, stropText, Truth, truthText}
+use Rattle.hoa_standard.specs.Standard.{Std, stdText, IsStd, stdMeaning}
+use Rattle.hoa_standard.specs.Machines.{Buchi, RabinWants, RabinBehind, StreettWants, StreettBehind, Bare, TruthWants, TruthBehind, Wants, Behind, begin}
+use Rattle.hoa_standard.specs.Machines.{buchiOpen, buchiClose, rabinOpen, rabinInf, rabinFin, rabinClose, rabinAnd, rabinOr, streettOpen, streettInf, streettFin}
+use Rattle.hoa_standard.specs.Machines.{streettClose, streettAnd, streettOr}
+use Rattle.hoa_standard.specs.Machines.{bareOpen, bareInf, bareFin, bareClose, bareOr, truthOpen, truthIs, truthClose, buchiDone, rabinDone, streettDone, bareDone}
+use Rattle.hoa_standard.specs.Formulas.{FormulaState, go, Stage, after, pieceOf, truthDone, byDone, meaningOf, formulaBegin}
 use Rattle.hoa_formula.specs.Walking.{freeWalk, Stands}
 use Rattle.hoa_formula.proofs.Rests.{truthWord, Went, opens, infs, fins, truths, brackets, numbers, shuts, closed, ands, ors, went, walked, go-is, rest}
 use Rattle.hoa_formula.proofs.Admitted.{Complete, complete}

@@ -9,8 +9,8 @@ use Rattle.hoa_tokens.specs.Stream.{tokensAt}
 use Rattle.hoa_formula.specs.declared.FormulaFound.{FormulaFound}
 use Rattle.hoa_formula.specs.declared.FormulaFound.the-variants as found-is
 use Rattle.hoa_formula.specs.declared.FormulaRead.{FormulaRead}
-use Rattle.hoa_formula.specs.Standard.{standard, short, noNeeds}
-use Rattle.hoa_formula.specs.Formulas.{FormulaEnd, overAt, wrongAt, formulaBegin, formulaRun}
+use Rattle.hoa_standard.specs.Standard.{standard, short, noNeeds}
+use Rattle.hoa_standard.specs.Formulas.{FormulaEnd, overAt, wrongAt, formulaBegin, formulaRun}
 
 -- what is found in a text, with these needs
 abbrev pub foundSays : List ℕ → List ℕ → FormulaFound → FormulaEnd

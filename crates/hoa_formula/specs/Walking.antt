@@ -3,9 +3,9 @@ use mathlib.Core.List.{List, [], _∷_, _++_}
 use mathlib.Core.Path.{_≡_}
 use Prim.Native.Nat.{ℕ}
 use Rattle.hoa_tokens.specs.Token.{Token}
-use Rattle.hoa_formula.specs.Standard.{FormulaMeaning, Std, IsStd, stdText}
-use Rattle.hoa_formula.specs.Machines.{Behind}
-use Rattle.hoa_formula.specs.Formulas.{FormulaState, FormulaStep, go, over, wrong, after, meaningOf, freeStep}
+use Rattle.hoa_standard.specs.Standard.{FormulaMeaning, Std, IsStd, stdText}
+use Rattle.hoa_standard.specs.Machines.{Behind}
+use Rattle.hoa_standard.specs.Formulas.{FormulaState, FormulaStep, go, over, wrong, after, meaningOf, freeStep}
 
 abbrev pub andOn : FormulaStep → (FormulaState → FormulaStep) → FormulaStep
 andOn (go s) further = further s

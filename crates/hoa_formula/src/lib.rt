@@ -1,25 +1,21 @@
 // The acceptance formula of the Hanoi format (docs/RULES.md, "The Hanoi format"): read by one loop over its tokens, with counters and no stack.
-// Relies on the crates `hoa_tokens` and `table`. The grammar, the standard formulas and the admission of a token are in specs/.
-pub mod machine;
-pub mod needs;
-pub mod step;
-
-use crate::machine::Ahead;
-use crate::machine::Past;
-use crate::machine::Piece;
-use crate::needs::Needs;
-use crate::needs::counted;
-use crate::step::Formula;
-use crate::step::Stage;
-use crate::step::Turn;
-use crate::step::step;
+// Relies on the crates `hoa_turn`, `hoa_standard`, `hoa_tokens` and `table`. The grammar is in specs/, the standard formulas and the admission of a token in hoa_standard/specs/.
+use hoa_standard::Ahead;
+use hoa_standard::Past;
+use hoa_standard::Piece;
 use hoa_tokens::Kind;
 use hoa_tokens::Sign;
 use hoa_tokens::Word;
 use hoa_tokens::token_at;
+use hoa_turn::needs::Needs;
+use hoa_turn::needs::counted;
+use hoa_turn::step::Formula;
+use hoa_turn::step::Stage;
+use hoa_turn::step::Turn;
+use hoa_turn::step::step;
 use table::Acceptance;
 ghost use mathlib.Core.Path.{_≡_};
-ghost use Rattle.hoa_formula.specs.Formulas.{wordPiece, signPiece};
+ghost use Rattle.hoa_standard.specs.Formulas.{wordPiece, signPiece};
 ghost use Rattle.hoa_formula.specs.Reading.{FormulaAt};
 ghost use Rattle.hoa_formula.specs.inner.Ends.{kindPiece, ifNone, completeTo, standardRead, completeRead, pastRead, overRead};
 

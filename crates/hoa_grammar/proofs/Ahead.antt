@@ -16,9 +16,9 @@ use Rattle.hoa_step.specs.declared.Given.{Given}
 use Rattle.hoa_step.specs.declared.Given.the-variants.{Not, Value}
 use Rattle.hoa_step.specs.Given.{isGiven, givenOr, notBelow, notAbove}
 use Rattle.job_text.specs.Job.{mostJobStates}
-use Rattle.hoa_formula.specs.Standard.{mostPairs}
-use Rattle.hoa_head.specs.declared.Head.{Head}
-use Rattle.hoa_head.specs.Head.{mostProps, mostMarks, blank, withStates, withStart, withProps, withMarks, withAccName, withTool, withName}
+use Rattle.hoa_standard.specs.Standard.{mostPairs}
+use Rattle.hoa_value.specs.declared.Head.{Head}
+use Rattle.hoa_value.specs.Head.{mostProps, mostMarks, blank, withStates, withStart, withProps, withMarks, withAccName, withTool, withName}
 use Rattle.hoa_grammar.specs.Doc.{Conj, one, more, Hint, Extra, Item, states, start, props, alias, acceptance, accName, tool, name, properties, capital, lower}
 use Rattle.hoa_grammar.specs.Subset.{Each, eachNone, eachMore, Differ, given, put, ofStates, ofStart, ofProps, ofAcceptance, ofAccName, ofTool, ofName, Formula, ItemFits, StandardAs, pairsIn}
 use Rattle.hoa_grammar.proofs.Takes.{

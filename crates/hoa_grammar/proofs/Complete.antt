@@ -18,13 +18,13 @@ use Rattle.hoa_step.specs.declared.Given.{Given}
 use Rattle.hoa_step.specs.declared.Given.the-variants.{Not, Value}
 use Rattle.hoa_step.specs.Given.{isGiven, givenOr, notBelow}
 use Rattle.hoa_step.specs.Machine.{End, doneAt, wrongAt, cut, run}
-use Rattle.hoa_head.specs.declared.Head.{Head}
-use Rattle.hoa_head.specs.Head.{mostProps, mostMarks, blank}
-use Rattle.hoa_head.specs.Heading.{HeadState, opening, items, headStep, onOpening, onVersion, pieceOf, onBody}
+use Rattle.hoa_value.specs.declared.Head.{Head}
+use Rattle.hoa_value.specs.Head.{mostProps, mostMarks, blank}
+use Rattle.hoa_value.specs.Heading.{HeadState, opening, items, headStep, onOpening, onVersion, pieceOf, onBody}
 use Rattle.hoa_head.specs.Headed.{headEnd}
-use Rattle.hoa_rows.specs.declared.Limits.{Limits}
-use Rattle.hoa_rows.specs.Rows.{Rows, Kept, noRows, entries, closing, wrongEnd, rowStep, entryOf, onClosing}
-use Rattle.hoa_rows.specs.Sorted.{sorted}
+use Rattle.hoa_entry.specs.declared.Limits.{Limits}
+use Rattle.hoa_entry.specs.Rows.{Rows, Kept, noRows, entries, closing, wrongEnd, rowStep, entryOf, onClosing}
+use Rattle.hoa_kept.specs.Sorted.{sorted}
 use Rattle.hoa.specs.Reading.{limitsOf, jobOf, rowsSay, headSays, readHoa}
 use Rattle.hoa_grammar.specs.Doc.{Conj, one, Item, Row, Doc, itemsText, rowsText, docText}
 use Rattle.hoa_grammar.specs.Subset.{Each, eachNone, eachMore, Differ, given, ofStates, ofStart, ofProps, ofAcceptance, Formula, StandardAs, propsOf, statesOf, RowsSay, numbersOf, Says, Limited}

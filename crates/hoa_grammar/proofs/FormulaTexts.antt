@@ -14,7 +14,7 @@ use Rattle.hoa_tokens.specs.declared.Word.{Word}
 use Rattle.hoa_tokens.specs.declared.Word.the-variants as word-is
 use Rattle.hoa_tokens.specs.Token.{Token, header, body}
 use Rattle.hoa_formula.specs.Cond.{Cond, condText}
-use Rattle.hoa_formula.specs.Standard.{
+use Rattle.hoa_standard.specs.Standard.{
   FormulaMeaning,
   standard,
   short,
@@ -60,18 +60,18 @@ use Rattle.hoa_formula.specs.Standard.{
   right,
   atom,
 }
-use Rattle.hoa_formula.specs.Machines.{RabinWants, RabinBehind, StreettWants, Bare, TruthBehind, Wants, Behind, begin, buchiDone, rabinDone, streettDone, bareDone}
-use Rattle.hoa_formula.specs.Formulas as formula
-use Rattle.hoa_formula.specs.Formulas.{FormulaState, FormulaStep, Stage, operand, named, bracket, number, after, formulaBegin, freeStep, formulaStep, tooMany, limited, opensPair, onStage, meaningOf, byDone}
+use Rattle.hoa_standard.specs.Machines.{RabinWants, RabinBehind, StreettWants, Bare, TruthBehind, Wants, Behind, begin, buchiDone, rabinDone, streettDone, bareDone}
+use Rattle.hoa_standard.specs.Formulas as formula
+use Rattle.hoa_standard.specs.Formulas.{FormulaState, FormulaStep, Stage, operand, named, bracket, number, after, formulaBegin, freeStep, formulaStep, tooMany, limited, opensPair, onStage, meaningOf, byDone}
 use Rattle.hoa_formula.specs.Walking.{freeWalk, andOn, Stands}
 use Rattle.hoa_formula.proofs.Admitted as admitted
 use Rattle.hoa_formula.proofs.Sound as sounds
 use Rattle.hoa_formula.proofs.Accepted.{over-stands, limit-over, limit-go}
 use Rattle.hoa_formula.proofs.Conds.{std-cond}
-use Rattle.hoa_formula.specs.declared.machine.Piece.the-variants as piece-is
-use Rattle.hoa_head.specs.declared.Head.{Head}
-use Rattle.hoa_head.specs.Head.{withMarks}
-use Rattle.hoa_head.specs.Heading.{HeadState, items, inFormula, headStep, onFormula}
+use Rattle.hoa_standard.specs.declared.Piece.the-variants as piece-is
+use Rattle.hoa_value.specs.declared.Head.{Head}
+use Rattle.hoa_value.specs.Head.{withMarks}
+use Rattle.hoa_value.specs.Heading.{HeadState, items, inFormula, headStep, onFormula}
 use Rattle.hoa_grammar.specs.Subset.{StandardAs, pairsIn}
 use Rattle.hoa_grammar.specs.Walk.{Walk, walk, walkBy}
 use Rattle.hoa_grammar.proofs.Onward.{Onward, same, limit, onward-then, onward-from}

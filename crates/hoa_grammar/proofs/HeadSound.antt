@@ -20,16 +20,16 @@ use Rattle.hoa_tokens.specs.Token.{Token, int, word, header, str, aname, sign, 
 use Rattle.job_text.specs.Job.{mostJobStates}
 use Rattle.table.specs.declared.Acceptance.{Acceptance}
 use Rattle.hoa_formula.specs.Cond.{Cond, condText}
-use Rattle.hoa_formula.specs.Standard.{FormulaMeaning, standard, short, mostPairs}
-use Rattle.hoa_formula.specs.Formulas as formula
-use Rattle.hoa_formula.specs.Formulas.{FormulaState, formulaBegin, formulaStep, FormulaStep}
+use Rattle.hoa_standard.specs.Standard.{FormulaMeaning, standard, short, mostPairs}
+use Rattle.hoa_standard.specs.Formulas as formula
+use Rattle.hoa_standard.specs.Formulas.{FormulaState, formulaBegin, formulaStep, FormulaStep}
 use Rattle.hoa_step.specs.Machine.{Step, go, done, wrong, wantsInt, wantsText}
 use Rattle.hoa_step.specs.Given.{isGiven, notBelow, notAbove}
-use Rattle.hoa_head.specs.declared.Head.{Head}
-use Rattle.hoa_head.specs.declared.Piece.{Piece}
-use Rattle.hoa_head.specs.declared.Piece.the-variants as piece-is
-use Rattle.hoa_head.specs.Head.{mostProps, mostMarks, blank, withStates, withStart, withProps, withMarks, withAccName, withTool, withName}
-use Rattle.hoa_head.specs.Heading.{
+use Rattle.hoa_value.specs.declared.Head.{Head}
+use Rattle.hoa_value.specs.declared.Piece.{Piece}
+use Rattle.hoa_value.specs.declared.Piece.the-variants as piece-is
+use Rattle.hoa_value.specs.Head.{mostProps, mostMarks, blank, withStates, withStart, withProps, withMarks, withAccName, withTool, withName}
+use Rattle.hoa_value.specs.Heading.{
   HeadState,
   opening,
   version,

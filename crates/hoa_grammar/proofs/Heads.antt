@@ -15,14 +15,14 @@ use Rattle.hoa_tokens.specs.declared.Sign.the-variants as sign-is
 use Rattle.hoa_tokens.specs.Token.{Token, int, word, header, str, aname, sign, body, end, abort, finish, bad}
 use Rattle.job_text.specs.Job.{mostJobStates}
 use Rattle.hoa_formula.specs.Cond.{condText}
-use Rattle.hoa_formula.specs.Formulas.{formulaBegin}
+use Rattle.hoa_standard.specs.Formulas.{formulaBegin}
 use Rattle.hoa_step.specs.Machine.{Step, go, done, wrong, wantsInt, wantsText}
 use Rattle.hoa_step.specs.Given.{isGiven, notBelow, notAbove}
-use Rattle.hoa_head.specs.declared.Head.{Head}
-use Rattle.hoa_head.specs.declared.Piece.{Piece}
-use Rattle.hoa_head.specs.declared.Piece.the-variants as piece-is
-use Rattle.hoa_head.specs.Head.{mostProps, mostMarks, withStates, withStart, withProps, withMarks, withAccName, withTool, withName}
-use Rattle.hoa_head.specs.Heading.{
+use Rattle.hoa_value.specs.declared.Head.{Head}
+use Rattle.hoa_value.specs.declared.Piece.{Piece}
+use Rattle.hoa_value.specs.declared.Piece.the-variants as piece-is
+use Rattle.hoa_value.specs.Head.{mostProps, mostMarks, withStates, withStart, withProps, withMarks, withAccName, withTool, withName}
+use Rattle.hoa_value.specs.Heading.{
   HeadState,
   items,
   statesInt,

@@ -5,9 +5,9 @@ use Prim.Native.Nat.{ℕ, _≤_}
 use Rattle.table.specs.declared.Acceptance.{Acceptance}
 use Rattle.hoa_tokens.specs.Token.{Token}
 use Rattle.hoa_formula.specs.Cond.{Cond, condText}
-use Rattle.hoa_formula.specs.Standard.{FormulaMeaning, standard, mostPairs}
-use Rattle.hoa_formula.specs.Formulas as formula
-use Rattle.hoa_formula.specs.Formulas.{FormulaState, formulaBegin, formulaStep}
+use Rattle.hoa_standard.specs.Standard.{FormulaMeaning, standard, mostPairs}
+use Rattle.hoa_standard.specs.Formulas as formula
+use Rattle.hoa_standard.specs.Formulas.{FormulaState, formulaBegin, formulaStep}
 use Rattle.hoa_grammar.specs.Subset.{StandardAs, pairsIn}
 
 -- the tokens lead from a state of a formula to its end, with this meaning, and these are left

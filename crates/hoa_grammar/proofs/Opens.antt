@@ -3,9 +3,9 @@ use mathlib.Core.List.{List, _∷_}
 use mathlib.Core.Path.{_≡_, ap}
 use Rattle.hoa_tokens.specs.declared.Header.{Header}
 use Rattle.hoa_tokens.specs.Token.{Token, header, body}
-use Rattle.hoa_head.specs.declared.Head.{Head}
-use Rattle.hoa_head.specs.declared.Piece.the-variants as piece-is
-use Rattle.hoa_head.specs.Heading.{HeadState, HeadStep, pieceOf, headStep}
+use Rattle.hoa_value.specs.declared.Head.{Head}
+use Rattle.hoa_value.specs.declared.Piece.the-variants as piece-is
+use Rattle.hoa_value.specs.Heading.{HeadState, HeadStep, pieceOf, headStep}
 use Rattle.hoa_grammar.specs.Walk.{Walk, walkBy, walk}
 
 abbrev pub HeadWalk : Type 0

@@ -11,10 +11,10 @@ use lib.ListN.{length}
 use Rattle.table.specs.declared.Acceptance.{Acceptance}
 use Rattle.table.specs.declared.Acceptance.the-variants as acceptance
 use Rattle.hoa_tokens.specs.Token.{Token}
-use Rattle.hoa_formula.specs.declared.machine.Piece.{Piece}
-use Rattle.hoa_formula.specs.declared.machine.Piece.the-variants as piece-is
-use Rattle.hoa_formula.specs.Standard.{FormulaMeaning, standard, short, mostPairs, rabinMeaning}
-use Rattle.hoa_formula.specs.Machines.{
+use Rattle.hoa_standard.specs.declared.Piece.{Piece}
+use Rattle.hoa_standard.specs.declared.Piece.the-variants as piece-is
+use Rattle.hoa_standard.specs.Standard.{FormulaMeaning, standard, short, mostPairs, rabinMeaning}
+use Rattle.hoa_standard.specs.Machines.{
   Buchi,
   RabinWants,
   RabinBehind,
@@ -54,8 +54,8 @@ use Rattle.hoa_formula.specs.Machines.{
   truthClose,
   rabinDone,
 }
-use Rattle.hoa_formula.specs.Formulas as formulas
-use Rattle.hoa_formula.specs.Formulas.{
+use Rattle.hoa_standard.specs.Formulas as formulas
+use Rattle.hoa_standard.specs.Formulas.{
   FormulaState,
   FormulaStep,
   go,

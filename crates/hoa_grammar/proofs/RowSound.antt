@@ -22,11 +22,11 @@ use Rattle.hoa_label.proofs.Sets.{labelSet}
 use Rattle.hoa_label.proofs.Sound as label-sound
 use Rattle.hoa_step.specs.Machine.{Step, go, done, wrong, wantsInt}
 use Rattle.hoa_step.specs.Given.{notBelow}
-use Rattle.hoa_rows.specs.declared.Limits.{Limits}
-use Rattle.hoa_rows.specs.declared.Entry.{Entry}
-use Rattle.hoa_rows.specs.declared.Entry.the-variants as entry-is
-use Rattle.hoa_rows.specs.Sig.{sigStep, sigSign, withMark, SigStep}
-use Rattle.hoa_rows.specs.Rows.{
+use Rattle.hoa_entry.specs.declared.Limits.{Limits}
+use Rattle.hoa_entry.specs.declared.Entry.{Entry}
+use Rattle.hoa_entry.specs.declared.Entry.the-variants as entry-is
+use Rattle.hoa_entry.specs.Sig.{sigStep, sigSign, withMark, SigStep}
+use Rattle.hoa_entry.specs.Rows.{
   Rows,
   rows,
   withRow,

@@ -10,8 +10,8 @@ use Rattle.job_text.specs.Job.{mostJobStates, mostJobEdges}
 use Rattle.hoa_label.specs.Label.{Label, labelFits, labelDepth, mostLevels}
 use Rattle.hoa_label.proofs.Sets.{labelSet}
 use Rattle.hoa_step.specs.Given.{notBelow}
-use Rattle.hoa_rows.specs.declared.Limits.{Limits}
-use Rattle.hoa_rows.specs.Rows.{Rows, withRow, withSig, withEdge, came, fullRows}
+use Rattle.hoa_entry.specs.declared.Limits.{Limits}
+use Rattle.hoa_entry.specs.Rows.{Rows, withRow, withSig, withEdge, came, fullRows}
 use Rattle.hoa_grammar.specs.Doc.{Conj, EdgeTree, Row}
 use Rattle.hoa_grammar.specs.Subset.{SigFits, sigMarks}
 

@@ -25,9 +25,9 @@ use Rattle.hoa_label.proofs.Walks.{closed-going, faulty-going, closed-faulty, f
 use Rattle.hoa_label.proofs.Complete as label-complete
 use Rattle.hoa_step.specs.Machine.{Step, go, done, wrong, wantsInt}
 use Rattle.hoa_step.specs.Given.{notBelow}
-use Rattle.hoa_rows.specs.declared.Limits.{Limits}
-use Rattle.hoa_rows.specs.Sig.{sigStep, withMark}
-use Rattle.hoa_rows.specs.Rows.{
+use Rattle.hoa_entry.specs.declared.Limits.{Limits}
+use Rattle.hoa_entry.specs.Sig.{sigStep, withMark}
+use Rattle.hoa_entry.specs.Rows.{
   Rows,
   rows,
   withRow,

@@ -17,8 +17,8 @@ use Rattle.hoa_label.proofs.Meaning.{meaning, satisfiable}
 use Rattle.hoa_step.specs.declared.Given.{Given}
 use Rattle.hoa_step.specs.declared.Given.the-variants.{Not, Value}
 use Rattle.hoa_step.specs.Given.{notBelow}
-use Rattle.hoa_rows.specs.declared.Limits.{Limits}
-use Rattle.hoa_rows.specs.Rows.{Rows, rows, withRow, withSig, withEdge, kept, came, lastRow, fullRows, wrongEnd}
+use Rattle.hoa_entry.specs.declared.Limits.{Limits}
+use Rattle.hoa_entry.specs.Rows.{Rows, rows, withRow, withSig, withEdge, kept, came, lastRow, fullRows, wrongEnd}
 use Rattle.hoa_grammar.specs.Doc.{Conj, EdgeTree, Row}
 use Rattle.hoa_grammar.specs.Subset.{
   Each,

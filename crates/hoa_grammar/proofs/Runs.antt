@@ -15,11 +15,11 @@ use Rattle.hoa_tokens.specs.Stream.{Placed, first, unlessFinished, some, tokens
 use Rattle.hoa_step.specs.Machine.{Step, go, done, wrong, End, doneAt, wrongAt, cut, endBy, run, wantsInt}
 use Rattle.hoa_label.specs.Labels as label
 use Rattle.hoa_label.specs.Labels.{LabelStep, labelStep, labelBegin}
-use Rattle.hoa_rows.specs.declared.Limits.{Limits}
-use Rattle.hoa_rows.specs.declared.Entry.{Entry}
-use Rattle.hoa_rows.specs.declared.Entry.the-variants as entry-is
-use Rattle.hoa_rows.specs.Sig.{SigStep, sigStep}
-use Rattle.hoa_rows.specs.Rows.{
+use Rattle.hoa_entry.specs.declared.Limits.{Limits}
+use Rattle.hoa_entry.specs.declared.Entry.{Entry}
+use Rattle.hoa_entry.specs.declared.Entry.the-variants as entry-is
+use Rattle.hoa_entry.specs.Sig.{SigStep, sigStep}
+use Rattle.hoa_entry.specs.Rows.{
   Rows,
   Kept,
   RowState,

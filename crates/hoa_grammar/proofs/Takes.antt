@@ -8,11 +8,11 @@ use lib.ListN.{length}
 use Rattle.table.specs.declared.Acceptance.{Acceptance}
 use Rattle.hoa_tokens.specs.declared.Word.{Word}
 use Rattle.hoa_formula.specs.Cond.{Cond}
-use Rattle.hoa_formula.specs.Standard.{mostPairs}
+use Rattle.hoa_standard.specs.Standard.{mostPairs}
 use Rattle.job_text.specs.Job.{mostJobStates}
 use Rattle.hoa_step.specs.Given.{isGiven, notBelow, notAbove}
-use Rattle.hoa_head.specs.declared.Head.{Head}
-use Rattle.hoa_head.specs.Head.{mostProps, mostMarks, withStates, withStart, withProps, withMarks, withAccName, withTool, withName}
+use Rattle.hoa_value.specs.declared.Head.{Head}
+use Rattle.hoa_value.specs.Head.{mostProps, mostMarks, withStates, withStart, withProps, withMarks, withAccName, withTool, withName}
 use Rattle.hoa_grammar.specs.Doc.{Conj, Hint, Extra, Item, states, start, props, alias, acceptance, accName, tool, name, properties, capital, lower}
 use Rattle.hoa_grammar.specs.Subset.{Differ, Formula, StandardAs, pairsIn}
 

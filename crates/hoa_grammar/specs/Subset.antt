@@ -12,10 +12,10 @@ use Rattle.hoa_tokens.specs.declared.Word.the-variants as word-is
 use Rattle.hoa_tokens.specs.Token.{Token}
 use Rattle.hoa_label.specs.Label.{Label, labelFits, labelDepth, Satisfiable, mostLevels}
 use Rattle.hoa_formula.specs.Cond.{Cond, condText}
-use Rattle.hoa_formula.specs.Standard.{standard, Std, stdText, IsStd, stdMeaning, mostPairs}
-use Rattle.hoa_head.specs.Head.{mostProps, mostMarks}
-use Rattle.hoa_rows.specs.Sig.{withMark}
-use Rattle.hoa_rows.specs.Sorted.{sorted}
+use Rattle.hoa_standard.specs.Standard.{standard, Std, stdText, IsStd, stdMeaning, mostPairs}
+use Rattle.hoa_value.specs.Head.{mostProps, mostMarks}
+use Rattle.hoa_entry.specs.Sig.{withMark}
+use Rattle.hoa_kept.specs.Sorted.{sorted}
 use Rattle.hoa_grammar.specs.Doc.{Conj, Item, states, start, props, alias, acceptance, accName, tool, name, properties, capital, lower, EdgeTree, Row, Doc}
 
 -- ---- lists

@@ -12,26 +12,28 @@ use Rattle.hoa_tokens.proofs.Sizes.{byTest}
 use Rattle.hoa_step.specs.Given.{isGiven}
 use Rattle.hoa_step.specs.Machine.{go, wrong, wrongAt, endBy, run}
 use Rattle.hoa_step.proofs.Runs.{first-is, first-wrong}
-use Rattle.hoa_head.specs.declared.Head.{Head}
-use Rattle.hoa_head.specs.declared.Piece.{Piece}
-use Rattle.hoa_head.specs.declared.Piece.the-variants as piece-is
-use Rattle.hoa_head.specs.declared.token.Spot.{Spot}
-use Rattle.hoa_head.specs.declared.value.Counted.{Counted}
-use Rattle.hoa_head.specs.declared.value.Counted.the-variants as counted
-use Rattle.hoa_head.specs.declared.hint.Passed.{Passed}
-use Rattle.hoa_head.specs.declared.hint.Passed.the-variants as passed
-use Rattle.hoa_head.specs.declared.formed.Formed.{Formed}
-use Rattle.hoa_head.specs.declared.formed.FormedEnd.the-variants as formed
+use Rattle.hoa_value.specs.declared.Head.{Head}
+use Rattle.hoa_value.specs.declared.Piece.{Piece}
+use Rattle.hoa_value.specs.declared.Piece.the-variants as piece-is
+use Rattle.hoa_value.specs.declared.token.Spot.{Spot}
+use Rattle.hoa_value.specs.declared.value.Counted.{Counted}
+use Rattle.hoa_value.specs.declared.value.Counted.the-variants as counted
+use Rattle.hoa_value.specs.declared.hint.Passed.{Passed}
+use Rattle.hoa_value.specs.declared.hint.Passed.the-variants as passed
+use Rattle.hoa_value.specs.declared.formed.Formed.{Formed}
+use Rattle.hoa_value.specs.declared.formed.FormedEnd.the-variants as formed
 use Rattle.hoa_head.specs.declared.item.Turn.{Turn}
 use Rattle.hoa_head.specs.declared.item.Turn.the-variants as turn
 use Rattle.hoa_head.specs.declared.item.HeadTurn.{HeadTurn}
 use Rattle.hoa_head.specs.declared.HeadRead.{HeadRead}
 use Rattle.hoa_head.specs.declared.HeadEnd.the-variants as head-end
-use Rattle.hoa_head.specs.Head.{blank, withStates, withStart, withProps, withMarks, withAccName, withTool, withName}
-use Rattle.hoa_head.specs.Heading.{HeadState, items, statesInt, startInt, propsInt, marksInt, accName, toolText, nameText, hints, headStep, onItem, onBody, onPiece}
+use Rattle.hoa_value.specs.Head.{blank, withStates, withStart, withProps, withMarks, withAccName, withTool, withName}
+use Rattle.hoa_value.specs.Heading.{HeadState, items, statesInt, startInt, propsInt, marksInt, accName, toolText, nameText, hints, headStep, onItem, onBody, onPiece}
 use Rattle.hoa_head.specs.Headed.{Headed, headEnd}
-use Rattle.hoa_head.specs.inner.Pieces.{Spotted}
-use Rattle.hoa_head.specs.inner.Turns.{StatesRead, StartRead, PropsRead, Passes, HintsPassed, OpeningRead, MarksRead, turnEnd, TurnIn}
+use Rattle.hoa_value.specs.inner.Pieces.{Spotted}
+use Rattle.hoa_value.specs.inner.Values.{StatesRead, StartRead, PropsRead, Passes, HintsPassed, MarksRead}
+use Rattle.hoa_head.specs.inner.Openings.{OpeningRead}
+use Rattle.hoa_head.specs.inner.Turns.{turnEnd, TurnIn}
 use Rattle.hoa_head.specs.inner.Turns.{refusedTurn, passedTurn, bodyTurn, Turned, Opened, second, refusedRead, ItemsRead}
 
 -- ---- where reading goes on, and where it is refused

@@ -17,13 +17,13 @@ use Rattle.hoa_step.specs.Machine.{run}
 use Rattle.hoa_step.specs.Wanted.{Next}
 use Rattle.hoa_step.proofs.Runs.{first-goes, first-wrong}
 use Rattle.hoa_step.proofs.Wants.{found-next}
-use Rattle.hoa_head.specs.declared.hint.Passed.the-variants as passed
-use Rattle.hoa_head.specs.Head.{blank}
-use Rattle.hoa_head.specs.Heading.{opening, version, items, headStep, openingHeader, onOpening, versionWord, onVersion}
-use Rattle.hoa_head.specs.inner.Pieces.{openingFault, openingKind, versionFault, versionKind}
-use Rattle.hoa_head.specs.inner.Turns.{OpeningRead}
-use Rattle.hoa_head.proofs.Spots.{unless-kind}
-use Rattle.hoa_head.proofs.Values.{stepBy}
+use Rattle.hoa_value.specs.declared.hint.Passed.the-variants as passed
+use Rattle.hoa_value.specs.Head.{blank}
+use Rattle.hoa_value.specs.Heading.{opening, version, items, headStep, openingHeader, onOpening, versionWord, onVersion}
+use Rattle.hoa_head.specs.inner.Openings.{openingFault, openingKind, versionFault, versionKind}
+use Rattle.hoa_head.specs.inner.Openings.{OpeningRead}
+use Rattle.hoa_value.proofs.Spots.{unless-kind}
+use Rattle.hoa_value.proofs.Values.{stepBy}
 
 opening-header : (h : Header) → openingHeader h ≡ stepBy (openingFault h) version
 opening-header header-is.Hoa = refl

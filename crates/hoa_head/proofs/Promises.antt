@@ -8,18 +8,18 @@ use lib.ListN.{length}
 use Rattle.hoa_tokens.specs.Token.{finish}
 use Rattle.hoa_tokens.specs.Stream.{tokensAt}
 use Rattle.hoa_tokens.proofs.Sizes.{byTest}
-use Rattle.hoa_formula.specs.Formulas as formula
-use Rattle.hoa_formula.specs.Formulas.{FormulaState, FormulaStep, formulaStep, freeStep, limited, onStage, Stage, ends, pieceOf as formulaPiece}
-use Rattle.hoa_formula.specs.Standard.{standard, short}
+use Rattle.hoa_standard.specs.Formulas as formula
+use Rattle.hoa_standard.specs.Formulas.{FormulaState, FormulaStep, formulaStep, freeStep, limited, onStage, Stage, ends, pieceOf as formulaPiece}
+use Rattle.hoa_standard.specs.Standard.{standard, short}
 use Rattle.hoa_step.specs.Machine.{go, wrong, End, doneAt, wrongAt, cut, wantsInt, wantsText}
 use Rattle.hoa_step.proofs.Finishes as finishes
-use Rattle.hoa_head.specs.declared.Head.{Head}
+use Rattle.hoa_value.specs.declared.Head.{Head}
 use Rattle.hoa_head.specs.declared.HeadEnd.{HeadEnd}
 use Rattle.hoa_head.specs.declared.HeadEnd.the-variants.{Body, Refused}
 use Rattle.hoa_head.specs.declared.HeadRead.{HeadRead}
-use Rattle.hoa_head.specs.Heading.{HeadState, opening, version, items, statesInt, startInt, propsInt, marksInt, startMore, names, inFormula}
-use Rattle.hoa_head.specs.Heading.{accName, toolText, toolMore, nameText, hints}
-use Rattle.hoa_head.specs.Heading.{headStep, pieceOf, onOpening, onVersion, onNames, onFormula}
+use Rattle.hoa_value.specs.Heading.{HeadState, opening, version, items, statesInt, startInt, propsInt, marksInt, startMore, names, inFormula}
+use Rattle.hoa_value.specs.Heading.{accName, toolText, toolMore, nameText, hints}
+use Rattle.hoa_value.specs.Heading.{headStep, pieceOf, onOpening, onVersion, onNames, onFormula}
 use Rattle.hoa_head.specs.Headed.{Headed, Ends, headEnd}
 
 -- ---- two results that are allowed

@@ -5,12 +5,12 @@ use Prim.Native.Nat.{ℕ, _≤_}
 use lib.ListN.{length}
 use Rattle.hoa_tokens.specs.Stream.{tokensAt}
 use Rattle.hoa_step.specs.Machine.{End, doneAt, wrongAt, cut, run}
-use Rattle.hoa_head.specs.declared.Head.{Head}
+use Rattle.hoa_value.specs.declared.Head.{Head}
 use Rattle.hoa_head.specs.declared.HeadEnd.{HeadEnd}
 use Rattle.hoa_head.specs.declared.HeadEnd.the-variants.{Body, Refused}
 use Rattle.hoa_head.specs.declared.HeadRead.{HeadRead}
-use Rattle.hoa_head.specs.Head.{blank}
-use Rattle.hoa_head.specs.Heading.{opening, headStep}
+use Rattle.hoa_value.specs.Head.{blank}
+use Rattle.hoa_value.specs.Heading.{opening, headStep}
 
 -- how the header of a text ends
 unfoldable pub headEnd : List ℕ → End Head

@@ -1,27 +1,27 @@
-// The items of the header, one after the other. Relies on `value`, `hint`, `names`, `formed` and `token`.
-use crate::Head;
-use crate::Piece;
-use crate::formed::FormedEnd;
-use crate::formed::read_marks;
-use crate::hint::Passed;
-use crate::hint::pass_hints;
-use crate::hint::read_acc_name;
-use crate::hint::read_name;
-use crate::hint::read_tool;
-use crate::names::read_props;
-use crate::token::look;
-use crate::value::Counted;
-use crate::value::read_start;
-use crate::value::read_states;
+// The items of the header, one after the other. Relies on the crate `hoa_value`.
 use hoa_step::Given;
 use hoa_tokens::Header;
+use hoa_value::Head;
+use hoa_value::Piece;
+use hoa_value::formed::FormedEnd;
+use hoa_value::formed::read_marks;
+use hoa_value::hint::Passed;
+use hoa_value::hint::pass_hints;
+use hoa_value::hint::read_acc_name;
+use hoa_value::hint::read_name;
+use hoa_value::hint::read_tool;
+use hoa_value::names::read_props;
+use hoa_value::token::look;
+use hoa_value::value::Counted;
+use hoa_value::value::read_start;
+use hoa_value::value::read_states;
 use table::Acceptance;
 ghost use mathlib.Core.Path.{_≡_};
 ghost use Prim.Native.Nat.{_≤_, _+_};
 ghost use lib.ListN.{length};
 ghost use Rattle.hoa_step.specs.Given.{isGiven};
-ghost use Rattle.hoa_head.specs.Heading.{items, statesInt, startInt, propsInt, marksInt, accName, toolText, nameText, hints};
-ghost use Rattle.hoa_head.specs.Head.{withMarks, withAccName, withTool, withName};
+ghost use Rattle.hoa_value.specs.Heading.{items, statesInt, startInt, propsInt, marksInt, accName, toolText, nameText, hints};
+ghost use Rattle.hoa_value.specs.Head.{withMarks, withAccName, withTool, withName};
 ghost use Rattle.hoa_head.specs.inner.Turns.{second, withNumbers, refusedTurn, passedTurn, bodyTurn, Turned, Opened};
 
 // Where the next item may begin, the byte behind `--BODY--`, or the refusal.

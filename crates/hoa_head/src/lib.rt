@@ -1,13 +1,7 @@
-// The header of a text of the Hanoi format (docs/RULES.md, "The Hanoi format"). Relies on the crates `hoa_step`, `hoa_formula`, `hoa_tokens` and `table`.
-// Which tokens are admitted, and what they say, is in specs/.
-mod formed;
-mod hint;
+// The header of a text of the Hanoi format (docs/RULES.md, "The Hanoi format"). Relies on the crates `hoa_value`, `hoa_step`, `hoa_tokens` and `table`.
+// Which tokens are admitted, and what they say, is in hoa_value/specs/; what comes back is in specs/.
 mod item;
-mod names;
-mod token;
-mod value;
 
-use crate::hint::Passed;
 use crate::item::Turn;
 use crate::item::read_item;
 use hoa_step::Given;
@@ -15,38 +9,17 @@ use hoa_tokens::Header;
 use hoa_tokens::Kind;
 use hoa_tokens::Word;
 use hoa_tokens::token_at;
+use hoa_value::Head;
+use hoa_value::hint::Passed;
 use table::Acceptance;
 ghost use mathlib.Core.Path.{_≡_};
 ghost use Prim.Native.Nat.{_≤_};
 ghost use lib.ListN.{length};
-ghost use Rattle.hoa_head.specs.Head.{blank};
+ghost use Rattle.hoa_value.specs.Head.{blank};
 ghost use Rattle.hoa_head.specs.Headed.{Headed};
-ghost use Rattle.hoa_head.specs.inner.Pieces.{openingFault, openingKind, versionFault, versionKind};
-ghost use Rattle.hoa_head.specs.inner.Turns.{refusedRead, OpeningRead, ItemsRead};
-
-// What was read of the header so far: the numbers of States:, Start:, AP: and Acceptance:, whether acc-name:, tool: and name: came, and the condition.
-pub struct Head {
-    pub states: Given,
-    pub start: Given,
-    pub props: Given,
-    pub marks: Given,
-    pub hint: bool,
-    pub tool: bool,
-    pub name: bool,
-    pub condition: Acceptance,
-    pub needs: [u32; 8],
-}
-
-// What a token is where the header stands: the header of an item, `--BODY--`, a WORD, an INT, a STRING, `&`, or a fault.
-pub enum Piece {
-    Item(Header),
-    Body,
-    Word,
-    Int,
-    Text,
-    Join,
-    Wrong(u32),
-}
+ghost use Rattle.hoa_head.specs.inner.Openings.{openingFault, openingKind, versionFault, versionKind};
+ghost use Rattle.hoa_head.specs.inner.Turns.{refusedRead, ItemsRead};
+ghost use Rattle.hoa_head.specs.inner.Openings.{OpeningRead};
 
 // The byte behind `--BODY--`, or the refusal.
 pub enum HeadEnd {

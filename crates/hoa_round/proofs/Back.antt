@@ -16,7 +16,7 @@ use Rattle.table.proofs.Sound.{Fit, used-few, rabin-few}
 use Rattle.hoa_tokens.specs.Token.{Token}
 use Rattle.hoa_tokens.specs.Stream.{Placed, tokensAt}
 use Rattle.hoa_label.specs.Label.{labelDepth, mostLevels}
-use Rattle.hoa_formula.specs.Standard.{mostPairs}
+use Rattle.hoa_standard.specs.Standard.{mostPairs}
 use Rattle.hoa_written.specs.Written.{hoaText}
 use Rattle.hoa_written.specs.Writing.{mostWritten, mostWrittenEdges}
 use Rattle.hoa_written.proofs.Tokens.{written-tokens}

@@ -8,8 +8,8 @@ use Rattle.table.specs.declared.Acceptance.the-variants as acceptance
 use Rattle.table.specs.Condition.{need}
 use Rattle.hoa_tokens.specs.Token.{Token}
 use Rattle.hoa_formula.specs.Cond.{inf, fin, Cond, Cconj, Catom, condText, cconjText}
-use Rattle.hoa_formula.specs.Standard.{left, right, both, either, Strop, infsText, infsEnd, pairText, pairEnd, rabinText, rabopText, rabopEnd}
-use Rattle.hoa_formula.specs.Standard.{streettText, streettEnd, stropText, spairText, singleText, truthText, stdText}
+use Rattle.hoa_standard.specs.Standard.{left, right, both, either, Strop, infsText, infsEnd, pairText, pairEnd, rabinText, rabopText, rabopEnd}
+use Rattle.hoa_standard.specs.Standard.{streettText, streettEnd, stropText, spairText, singleText, truthText, stdText}
 use Rattle.hoa_round.specs.Trees.{infsOf, needingOf, pairOf, rabinOf, askingOf, streettOf, stdOf}
 
 -- mark i and so many behind it

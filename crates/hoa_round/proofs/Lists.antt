@@ -8,7 +8,7 @@ use lib.Dec.{eqb}
 use lib.ListN.{length, getD, length-append}
 use Rattle.table.proofs.Rows.{Sorted}
 use Rattle.job_text.specs.Value.{Edge}
-use Rattle.hoa_rows.specs.Sorted.{leaving, sorted}
+use Rattle.hoa_kept.specs.Sorted.{leaving, sorted}
 use Rattle.hoa_written.proofs.Back.{upTo, leavingTo, byState, edges-by-state}
 use Rattle.hoa_grammar.specs.Subset.{Each, eachNone, eachMore, Differ, differNone, differMore}
 use Rattle.hoa_round.specs.Back.{edgeOf, edgesTo}

@@ -13,7 +13,7 @@ use Rattle.table.specs.declared.Acceptance.the-variants as acceptance
 use Rattle.table.specs.Condition.{need}
 use Rattle.table.specs.Refusal.{someNeed, used, wrongCondition}
 use Rattle.table.proofs.Sound.{either-false, rabin-few}
-use Rattle.hoa_formula.specs.Standard.{standard, infsCount, pairNeed, rabinNeeds, eightNeeds, truthMeaning, stdMeaning}
+use Rattle.hoa_standard.specs.Standard.{standard, infsCount, pairNeed, rabinNeeds, eightNeeds, truthMeaning, stdMeaning}
 use Rattle.hoa_round.specs.Trees.{infsOf, needingOf, rabinOf, stdOf}
 use Rattle.hoa_round.specs.Back.{comesBack, needsFor}
 

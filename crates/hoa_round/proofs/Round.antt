@@ -15,7 +15,7 @@ use Rattle.table.specs.Table.{lent}
 use Rattle.table.proofs.Sound.{sound-fit, either-false}
 use Rattle.job_text.specs.Value.{Edge}
 use Rattle.job_text.specs.Job.{job}
-use Rattle.hoa_formula.specs.Standard.{mostPairs}
+use Rattle.hoa_standard.specs.Standard.{mostPairs}
 use Rattle.hoa_written.specs.Written.{hoaText}
 use Rattle.hoa_written.specs.Writing.{mostWritten, mostWrittenEdges, tooLarge, writeRefusal}
 use Rattle.writing.specs.Writing.{orElse}

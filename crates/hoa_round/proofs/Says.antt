@@ -12,7 +12,7 @@ use Rattle.marks.specs.Mark.{has, union, width}
 use Rattle.marks.proofs.Laws.{has-fits}
 use Rattle.job_text.specs.Value.{Edge}
 use Rattle.hoa_label.specs.Label.{labelFits, labelHolds, Satisfiable}
-use Rattle.hoa_rows.specs.Sig.{alone, withMark}
+use Rattle.hoa_entry.specs.Sig.{alone, withMark}
 use Rattle.hoa_written.proofs.Back.{upTo, leavingTo, byState, gathered, gathered-all}
 use Rattle.hoa_grammar.specs.Doc.{EdgeTree, Row}
 use Rattle.hoa_grammar.specs.Subset.{Each, eachNone, eachMore, Differ, marksFrom, sigMarks, SigFits, EdgeSays, kept, EdgesSay, noEdges, moreEdges}

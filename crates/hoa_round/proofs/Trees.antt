@@ -11,8 +11,8 @@ use Rattle.table.specs.Refusal.{used}
 use Rattle.hoa_tokens.specs.declared.Word.the-variants as word-is
 use Rattle.hoa_tokens.specs.declared.Sign.the-variants as sign-is
 use Rattle.hoa_tokens.specs.Token.{Token, sign}
-use Rattle.hoa_formula.specs.Standard.{Strop, infsText, infsEnd, pairText, pairEnd, rabinText, rabinEnd, rabopText, rabopEnd}
-use Rattle.hoa_formula.specs.Standard.{streettText, streettEnd, stropText, spairText, singleText, truthText, stdText, IsStd}
+use Rattle.hoa_standard.specs.Standard.{Strop, infsText, infsEnd, pairText, pairEnd, rabinText, rabinEnd, rabopText, rabopEnd}
+use Rattle.hoa_standard.specs.Standard.{streettText, streettEnd, stropText, spairText, singleText, truthText, stdText, IsStd}
 use Rattle.hoa_written.specs.Tokens.{joinedTokens, atomTokens, infsTokens, buchiTokens, streettPairTokens, streettTokens, rabinPairTokens, rabinTokens, formulaTokens}
 use Rattle.hoa_round.specs.Trees.{infsOf, pairOf, rabinOf, askingOf, streettOf, stdOf}
 

@@ -11,7 +11,7 @@ use Rattle.table.specs.Table.{lent}
 use Rattle.table.specs.Refusal.{refusal}
 use Rattle.job_text.specs.Value.{Edge}
 use Rattle.job_text.specs.Job.{Job, job}
-use Rattle.hoa_formula.specs.Standard.{noNeeds, mostPairs}
+use Rattle.hoa_standard.specs.Standard.{noNeeds, mostPairs}
 use Rattle.hoa_written.specs.Written.{hoaText}
 use Rattle.hoa_written.specs.Writing.{mostWritten, mostWrittenEdges}
 use Rattle.hoa.specs.Reading.{readHoa}

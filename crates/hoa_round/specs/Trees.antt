@@ -4,7 +4,7 @@ use Prim.Native.Nat.{ℕ, zero, suc}
 use Rattle.table.specs.declared.Acceptance.{Acceptance}
 use Rattle.table.specs.declared.Acceptance.the-variants as acceptance
 use Rattle.table.specs.Condition.{need}
-use Rattle.hoa_formula.specs.Standard.{Infs, Infop, Pair, Phead, Rabin, Rabop, Single, Spair, Streett, Strop, Truth, Std}
+use Rattle.hoa_standard.specs.Standard.{Infs, Infop, Pair, Phead, Rabin, Rabop, Single, Spair, Streett, Strop, Truth, Std}
 
 -- a mark and so many behind it
 abbrev pub infsOf : ℕ → Infs

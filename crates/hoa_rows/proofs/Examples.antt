@@ -12,11 +12,11 @@ use Rattle.hoa_label.specs.Labels.{full, propSet, wanted, behind, stepWithin, l
 use Rattle.hoa_step.specs.declared.Given.{Given}
 use Rattle.hoa_step.specs.declared.Given.the-variants.{Not, Value}
 use Rattle.hoa_step.specs.Machine.{run, wantsInt}
-use Rattle.hoa_rows.specs.declared.Limits.{Limits}
+use Rattle.hoa_entry.specs.declared.Limits.{Limits}
 use Rattle.hoa_rows.specs.declared.RowsRead.{RowsRead}
 use Rattle.hoa_rows.specs.declared.RowsRead.the-variants.{Kept, Refused}
-use Rattle.hoa_rows.specs.Sig.{alone, sigStep}
-use Rattle.hoa_rows.specs.Rows.{entryOf, onClosing, rowStep}
+use Rattle.hoa_entry.specs.Sig.{alone, sigStep}
+use Rattle.hoa_entry.specs.Rows.{entryOf, onClosing, rowStep}
 use Rattle.hoa_rows.specs.Lent.{rowsEnd, told, cellsOf}
 
 -- start 0, one proposition and two marks

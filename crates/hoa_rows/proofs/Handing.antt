@@ -13,17 +13,18 @@ use Rattle.job_text.specs.Value.{Edge, padTo}
 use Rattle.job_text.specs.Job.{mostJobStates, mostJobEdges}
 use Rattle.hoa_tokens.specs.Stream.{Placed}
 use Rattle.hoa_step.specs.Machine.{doneAt, wrongAt}
-use Rattle.hoa_rows.specs.declared.Limits.{Limits}
+use Rattle.hoa_entry.specs.declared.Limits.{Limits}
 use Rattle.hoa_rows.specs.declared.RowsRead.{RowsRead}
 use Rattle.hoa_rows.specs.declared.RowsRead.the-variants.{Kept, Refused}
-use Rattle.hoa_rows.specs.declared.held.RowsSoFar.{RowsSoFar}
-use Rattle.hoa_rows.specs.Sorted.{leaving, sorted}
+use Rattle.hoa_kept.specs.declared.held.RowsSoFar.{RowsSoFar}
+use Rattle.hoa_kept.specs.Sorted.{leaving, sorted}
 use Rattle.hoa_rows.specs.Lent.{rowsEnd, edgesOf, fits, RowsInto}
 use Rattle.hoa_rows.specs.Worth.{AllFit, Worth}
-use Rattle.hoa_rows.specs.inner.Held.{Holds}
+use Rattle.hoa_kept.specs.inner.Held.{Holds}
 use Rattle.hoa_rows.specs.inner.Turns.{keptBy, Finished}
-use Rattle.hoa_rows.specs.inner.Copied.{Filled, firstOf, endOf, total, statesOf, partsOf, Fitting, RowsCopied, Handing, handed, cellsWhere, Handed}
-use Rattle.hoa_rows.proofs.Copying.{Parted, total-sorted, states-sorted, parts-sorted}
+use Rattle.hoa_kept.specs.inner.Copied.{Filled, firstOf, endOf, total, statesOf, partsOf, Fitting, RowsCopied}
+use Rattle.hoa_rows.specs.inner.Handed.{Handing, handed, cellsWhere, Handed}
+use Rattle.hoa_kept.proofs.Copying.{Parted, total-sorted, states-sorted, parts-sorted}
 use Rattle.hoa_rows.proofs.Worth.{worth}
 
 -- ---- nothing is lost by sorting

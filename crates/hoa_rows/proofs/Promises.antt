@@ -15,14 +15,14 @@ use Rattle.hoa_tokens.proofs.Next.{Stands, over, there, stands}
 use Rattle.job_text.specs.Value.{Edge}
 use Rattle.job_text.specs.Job.{mostJobEdges}
 use Rattle.hoa_step.specs.Machine.{Step, End, go, done, wrong, doneAt, wrongAt, cut, endBy, run}
-use Rattle.hoa_rows.specs.declared.Limits.{Limits}
+use Rattle.hoa_entry.specs.declared.Limits.{Limits}
 use Rattle.hoa_rows.specs.declared.RowsRead.{RowsRead}
-use Rattle.hoa_rows.specs.Sig.{sigStep}
+use Rattle.hoa_entry.specs.Sig.{sigStep}
 use Rattle.hoa_label.specs.Labels.{LabelState, wants, has, labelStep, stepWithin, wanted, behind}
-use Rattle.hoa_rows.specs.Rows.{Kept, RowState, RowStep, noRows, entries, rowNumber, rowName, rowSig, rowMarks, inLabel, target, targetMore, edgeMarks, closing}
-use Rattle.hoa_rows.specs.Rows.{onClosing, entryOf, rowStep}
+use Rattle.hoa_entry.specs.Rows.{Kept, RowState, RowStep, noRows, entries, rowNumber, rowName, rowSig, rowMarks, inLabel, target, targetMore, edgeMarks, closing}
+use Rattle.hoa_entry.specs.Rows.{onClosing, entryOf, rowStep}
 use Rattle.hoa_step.specs.Machine.{wantsInt}
-use Rattle.hoa_rows.specs.Sorted.{leaving, sorted}
+use Rattle.hoa_kept.specs.Sorted.{leaving, sorted}
 use Rattle.hoa_rows.specs.Lent.{rowsEnd, edgesOf, RowsInto}
 use Rattle.hoa_rows.specs.Worth.{Fits, AllFit, Agrees, Worth}
 use Rattle.hoa_rows.proofs.Worth.{worth}

@@ -20,31 +20,31 @@ use Rattle.hoa_step.specs.declared.Given.the-variants.{Not, Value}
 use Rattle.hoa_step.specs.Given.{notBelow}
 use Rattle.hoa_step.specs.Machine.{Step, End, go, done, wrong, doneAt, wrongAt, run}
 use Rattle.hoa_label.specs.Labels.{labelBegin}
-use Rattle.hoa_rows.specs.declared.Limits.{Limits}
-use Rattle.hoa_rows.specs.declared.Entry.{Entry}
-use Rattle.hoa_rows.specs.declared.Entry.the-variants as entry-is
-use Rattle.hoa_rows.specs.declared.token.EntryAt.{EntryAt}
-use Rattle.hoa_rows.specs.declared.held.RowsSoFar.{RowsSoFar}
-use Rattle.hoa_rows.specs.declared.held.Ending.{Ending}
-use Rattle.hoa_rows.specs.declared.held.Ending.the-variants as ending-is
-use Rattle.hoa_rows.specs.declared.row.RowRead.{RowRead}
-use Rattle.hoa_rows.specs.declared.row.RowRead.the-variants as row-read
-use Rattle.hoa_rows.specs.declared.edge.EdgeRead.{EdgeRead}
-use Rattle.hoa_rows.specs.declared.edge.EdgeRead.the-variants as edge-read
+use Rattle.hoa_entry.specs.declared.Limits.{Limits}
+use Rattle.hoa_entry.specs.declared.Entry.{Entry}
+use Rattle.hoa_entry.specs.declared.Entry.the-variants as entry-is
+use Rattle.hoa_entry.specs.declared.token.EntryAt.{EntryAt}
+use Rattle.hoa_kept.specs.declared.held.RowsSoFar.{RowsSoFar}
+use Rattle.hoa_rows.specs.declared.reader.Ending.{Ending}
+use Rattle.hoa_rows.specs.declared.reader.Ending.the-variants as ending-is
+use Rattle.hoa_entry.specs.declared.row.RowRead.{RowRead}
+use Rattle.hoa_entry.specs.declared.row.RowRead.the-variants as row-read
+use Rattle.hoa_entry.specs.declared.edge.EdgeRead.{EdgeRead}
+use Rattle.hoa_entry.specs.declared.edge.EdgeRead.the-variants as edge-read
 use Rattle.hoa_rows.specs.declared.reader.Admitted.{Admitted}
 use Rattle.hoa_rows.specs.declared.reader.Admitted.the-variants as admitted-is
 use Rattle.hoa_rows.specs.declared.reader.Turn.{Turn}
 use Rattle.hoa_rows.specs.declared.reader.Turn.the-variants as turn-is
-use Rattle.hoa_rows.specs.Rows as spec
-use Rattle.hoa_rows.specs.Rows.{Rows, RowStep, noRows, entries, rowNumber, inLabel, closing, withRow}
-use Rattle.hoa_rows.specs.Rows.{withSig, withEdge, behindRow, onEntry, closingHeader, onClosing, entryOf, rowStep}
+use Rattle.hoa_entry.specs.Rows as spec
+use Rattle.hoa_entry.specs.Rows.{Rows, RowStep, noRows, entries, rowNumber, inLabel, closing, withRow}
+use Rattle.hoa_entry.specs.Rows.{withSig, withEdge, behindRow, onEntry, closingHeader, onClosing, entryOf, rowStep}
 use Rattle.hoa_rows.specs.Lent.{rowsEnd}
-use Rattle.hoa_rows.specs.inner.Reads.{from, Onward, EntryHere, Behind, isFault, RowAt, EdgeAt}
-use Rattle.hoa_rows.specs.inner.Held.{Holds, Room, Blank, RowRoom, Begun, EdgeRoom, rowsWith, EdgeKept}
+use Rattle.hoa_entry.specs.inner.Reads.{from, Onward, EntryHere, Behind, isFault, RowAt, EdgeAt}
+use Rattle.hoa_kept.specs.inner.Held.{Holds, Room, Blank, RowRoom, Begun, EdgeRoom, rowsWith, EdgeKept}
 use Rattle.hoa_rows.specs.inner.Turns.{endsWrong, admittedOf, admittedStep, closingHeaderFault, closingFault, keptBy, Closed, CloseAt}
 use Rattle.hoa_rows.specs.inner.Turns.{GoesOn, Finished, Ended, TurnSays, GoesRoom, TurnRoom, RowTaken, EdgeTaken, Turned}
-use Rattle.hoa_rows.proofs.Steps.{step-goes, step-ends, step-faults}
-use Rattle.hoa_rows.proofs.Holding.{holds-none, holds-row, holds-edge}
+use Rattle.hoa_entry.proofs.Steps.{step-goes, step-ends, step-faults}
+use Rattle.hoa_kept.proofs.Holding.{holds-none, holds-row, holds-edge}
 
 -- ---- what may begin
 

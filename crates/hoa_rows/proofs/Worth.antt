@@ -25,14 +25,14 @@ use Rattle.hoa_step.specs.Given.{notBelow}
 use Rattle.hoa_step.specs.Machine.{Step, End, go, done, wrong, doneAt, wrongAt, cut, endBy, run, wantsInt}
 use Rattle.hoa_label.specs.Labels as label
 use Rattle.hoa_label.specs.Labels.{labelBegin, labelStep, LabelStep}
-use Rattle.hoa_rows.specs.declared.Limits.{Limits}
-use Rattle.hoa_rows.specs.declared.Entry.{Entry}
-use Rattle.hoa_rows.specs.declared.Entry.the-variants as entry-is
-use Rattle.hoa_rows.specs.Sig.{SigStep, alone, withMark, sigSign, sigStep}
-use Rattle.hoa_rows.specs.Rows.{Rows, Kept, RowState, RowStep, noRows, lastRow, withRow, withSig, kept, withEdge}
-use Rattle.hoa_rows.specs.Rows.{came, entries, rowNumber, rowName, rowSig, rowMarks, inLabel, target, targetMore, edgeMarks, closing}
-use Rattle.hoa_rows.specs.Rows.{fullRows, wrongEnd, behindRow, onEntry, onNumber, labelled, onSig, onName, onRowMarks}
-use Rattle.hoa_rows.specs.Rows.{shutLabel, onLabel, onTarget, onMore, onEdgeMarks, closingHeader, onClosing, entryOf, rowStep}
+use Rattle.hoa_entry.specs.declared.Limits.{Limits}
+use Rattle.hoa_entry.specs.declared.Entry.{Entry}
+use Rattle.hoa_entry.specs.declared.Entry.the-variants as entry-is
+use Rattle.hoa_entry.specs.Sig.{SigStep, alone, withMark, sigSign, sigStep}
+use Rattle.hoa_entry.specs.Rows.{Rows, Kept, RowState, RowStep, noRows, lastRow, withRow, withSig, kept, withEdge}
+use Rattle.hoa_entry.specs.Rows.{came, entries, rowNumber, rowName, rowSig, rowMarks, inLabel, target, targetMore, edgeMarks, closing}
+use Rattle.hoa_entry.specs.Rows.{fullRows, wrongEnd, behindRow, onEntry, onNumber, labelled, onSig, onName, onRowMarks}
+use Rattle.hoa_entry.specs.Rows.{shutLabel, onLabel, onTarget, onMore, onEdgeMarks, closingHeader, onClosing, entryOf, rowStep}
 use Rattle.hoa_rows.specs.Lent.{rowsEnd}
 use Rattle.hoa_rows.specs.Worth.{Fits, AllFit, Agrees, Worth}
 

@@ -8,12 +8,12 @@ use lib.ListN.{length, replicate}
 use Rattle.job_text.specs.Value.{Edge, padTo}
 use Rattle.hoa_tokens.specs.Stream.{Placed, tokensAt}
 use Rattle.hoa_step.specs.Machine.{End, doneAt, wrongAt, cut, run}
-use Rattle.hoa_rows.specs.declared.Limits.{Limits}
+use Rattle.hoa_entry.specs.declared.Limits.{Limits}
 use Rattle.hoa_rows.specs.declared.RowsRead.{RowsRead}
 use Rattle.hoa_rows.specs.declared.RowsRead.the-variants.{Kept, Refused}
-use Rattle.hoa_rows.specs.Rows as spec
-use Rattle.hoa_rows.specs.Rows.{noRows, entries, rowStep}
-use Rattle.hoa_rows.specs.Sorted.{sorted}
+use Rattle.hoa_entry.specs.Rows as spec
+use Rattle.hoa_entry.specs.Rows.{noRows, entries, rowStep}
+use Rattle.hoa_kept.specs.Sorted.{sorted}
 
 -- how the rows of a text end, behind `--BODY--` at a place of it
 unfoldable pub rowsEnd : Limits → List ℕ → ℕ → End spec.Kept

@@ -7,8 +7,8 @@ use Rattle.job_text.specs.Value.{Edge}
 use Rattle.job_text.specs.Job.{mostJobStates, mostJobEdges}
 use Rattle.hoa_step.specs.declared.Given.{Given}
 use Rattle.hoa_step.specs.declared.Given.the-variants.{Not, Value}
-use Rattle.hoa_rows.specs.declared.Limits.{Limits}
-use Rattle.hoa_rows.specs.Rows.{Kept}
+use Rattle.hoa_entry.specs.declared.Limits.{Limits}
+use Rattle.hoa_entry.specs.Rows.{Kept}
 
 -- an edge of a table with n states and c marks
 pub record Fits (n c : ℕ) (e : Edge) : Type 0 where

@@ -1,39 +1,14 @@
-// The rows of a text of the Hanoi format (docs/RULES.md, "The Hanoi format"). Relies on the crates `hoa_step`, `hoa_label`, `hoa_tokens` and `marks`.
+// The rows of a text of the Hanoi format (docs/RULES.md, "The Hanoi format"). Relies on the crates `hoa_entry`, `hoa_kept` and `hoa_tokens`.
 // One pass over the tokens keeps the edges in the text's order; they are handed over by states at the end, so that a refusal changes no lent cell.
-// Which tokens are admitted, and what they say, is in specs/.
-mod copied;
-mod edge;
-mod held;
+// Which tokens are admitted, and what they say, is in hoa_entry/specs/; what comes back is in specs/.
+mod handed;
 mod reader;
-mod row;
-mod sig;
-mod token;
 
-use crate::copied::hand_over;
-use crate::held::Ending;
+use crate::handed::hand_over;
+use crate::reader::Ending;
 use crate::reader::read_entries;
-use hoa_step::Given;
+use hoa_entry::Limits;
 ghost use Rattle.hoa_rows.specs.Lent.{RowsInto};
-
-// What the rows of a text are held against: n, if it was given, the start, the number of propositions and of marks.
-pub struct Limits {
-    pub states: Given,
-    pub start: u32,
-    pub props: u32,
-    pub marks: u32,
-}
-
-// What a token is where the rows stand: `State:`, `[`, an INT, `--END--`, `{`, a STRING, `&`, or a fault.
-pub enum Entry {
-    Row,
-    Edge,
-    Bare,
-    Close,
-    Sig,
-    Text,
-    Join,
-    Wrong(u32),
-}
 
 // What reading the rows gives: how many states and edges, or the refusal.
 pub enum RowsRead {

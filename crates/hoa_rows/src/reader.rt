@@ -1,16 +1,14 @@
-// The rows token by token. Relies on `token`, `row`, `edge` and `held`, and on the crate `hoa_tokens`.
-use crate::Entry;
-use crate::Limits;
-use crate::edge::EdgeRead;
-use crate::edge::read_edge;
-use crate::held::Ending;
-use crate::held::RowsSoFar;
-use crate::held::begin_row;
-use crate::held::keep_edge;
-use crate::row::RowRead;
-use crate::row::not_below;
-use crate::row::read_row;
-use crate::token::entry_at;
+// The rows token by token. Relies on the crates `hoa_entry`, `hoa_kept` and `hoa_tokens`.
+use hoa_entry::Entry;
+use hoa_entry::Limits;
+use hoa_entry::edge::EdgeRead;
+use hoa_entry::edge::read_edge;
+use hoa_entry::row::RowRead;
+use hoa_entry::row::read_row;
+use hoa_entry::token::entry_at;
+use hoa_kept::held::RowsSoFar;
+use hoa_kept::held::begin_row;
+use hoa_kept::held::keep_edge;
 use hoa_step::Given;
 use hoa_tokens::Header;
 use hoa_tokens::Kind;
@@ -21,8 +19,14 @@ ghost use Prim.Native.Nat.{ℕ};
 ghost use Rattle.hoa_tokens.specs.Stream.{tokenOf};
 ghost use Rattle.hoa_step.specs.Given.{notBelow};
 ghost use Rattle.hoa_rows.specs.Lent.{rowsEnd};
-ghost use Rattle.hoa_rows.specs.inner.Held.{Room, Blank};
+ghost use Rattle.hoa_kept.specs.inner.Held.{Room, Blank};
 ghost use Rattle.hoa_rows.specs.inner.Turns.{endsWrong, admittedOf, closingHeaderFault, closingFault, CloseAt, RowTaken, EdgeTaken, Turned, Ended};
+
+// How the rows end: the rows, or the refusal.
+pub(crate) enum Ending {
+    Done { rows: RowsSoFar },
+    Refused { number: u32, place: usize },
+}
 
 // What may begin: a row, an edge, the end; or the number of the fault.
 pub(crate) enum Admitted {

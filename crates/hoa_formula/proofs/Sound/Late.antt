@@ -12,20 +12,20 @@ use lib.Dec.{eqb, ltb}
 use borrow.Author.Tests.{eqb-true, eqb-false, ltb-true, ltb-false}
 use Rattle.hoa_tokens.specs.declared.Word.the-variants as word-is
 use Rattle.hoa_tokens.specs.Token.{Token, word}
-use Rattle.hoa_formula.specs.declared.machine.Piece.{Piece}
-use Rattle.hoa_formula.specs.Standard.{left, right, both, either, atom, Infs, Infop, infsEnd, infopEnd, infsText}
-use Rattle.hoa_formula.specs.Standard.{Rabin, rabinText, Single, Spair, Streett, Strop, streettText, stropText, stropEnd, spairText, singleText, Truth, truthText, Std}
-use Rattle.hoa_formula.specs.Standard.{stdText, IsStd}
-use Rattle.hoa_formula.specs.Machines.{Buchi, RabinWants, RabinBehind, StreettWants, StreettBehind, Bare, TruthWants, TruthBehind, Wants, Behind, begin}
-use Rattle.hoa_formula.specs.Machines.{streettOpen, streettInf, streettFin, streettClose, streettAnd, streettOr, bareOpen, bareInf, bareFin, bareClose, bareOr, truthOpen}
-use Rattle.hoa_formula.specs.Machines.{truthIs, truthClose}
-use Rattle.hoa_formula.specs.Machines.{buchiOpen, buchiClose, rabinOpen, rabinInf, rabinFin, rabinClose, rabinAnd, rabinOr}
-use Rattle.hoa_formula.specs.Machines.{wantsOpen, wantsInf, wantsFin, wantsTruth, behindClose, behindAnd, behindOr, someWants, someBehind}
-use Rattle.hoa_formula.specs.Machines.{buchiLive, rabinWanting, rabinLive, streettWanting, streettLive, bareLive, truthWanting, truthLive}
-use Rattle.hoa_formula.specs.Formulas.{FormulaState, go, Stage, operand, named, bracket, number, after, pieceOf, formulaBegin}
-use Rattle.hoa_formula.specs.Formulas.{truthDone, byDone, meaningOf}
-use Rattle.hoa_formula.specs.Standard.{FormulaMeaning, standard, short, noNeeds, rabinMeaning}
-use Rattle.hoa_formula.specs.Machines.{buchiDone, rabinDone, streettDone, bareDone}
+use Rattle.hoa_standard.specs.declared.Piece.{Piece}
+use Rattle.hoa_standard.specs.Standard.{left, right, both, either, atom, Infs, Infop, infsEnd, infopEnd, infsText}
+use Rattle.hoa_standard.specs.Standard.{Rabin, rabinText, Single, Spair, Streett, Strop, streettText, stropText, stropEnd, spairText, singleText, Truth, truthText, Std}
+use Rattle.hoa_standard.specs.Standard.{stdText, IsStd}
+use Rattle.hoa_standard.specs.Machines.{Buchi, RabinWants, RabinBehind, StreettWants, StreettBehind, Bare, TruthWants, TruthBehind, Wants, Behind, begin}
+use Rattle.hoa_standard.specs.Machines.{streettOpen, streettInf, streettFin, streettClose, streettAnd, streettOr, bareOpen, bareInf, bareFin, bareClose, bareOr, truthOpen}
+use Rattle.hoa_standard.specs.Machines.{truthIs, truthClose}
+use Rattle.hoa_standard.specs.Machines.{buchiOpen, buchiClose, rabinOpen, rabinInf, rabinFin, rabinClose, rabinAnd, rabinOr}
+use Rattle.hoa_standard.specs.Machines.{wantsOpen, wantsInf, wantsFin, wantsTruth, behindClose, behindAnd, behindOr, someWants, someBehind}
+use Rattle.hoa_standard.specs.Machines.{buchiLive, rabinWanting, rabinLive, streettWanting, streettLive, bareLive, truthWanting, truthLive}
+use Rattle.hoa_standard.specs.Formulas.{FormulaState, go, Stage, operand, named, bracket, number, after, pieceOf, formulaBegin}
+use Rattle.hoa_standard.specs.Formulas.{truthDone, byDone, meaningOf}
+use Rattle.hoa_standard.specs.Standard.{FormulaMeaning, standard, short, noNeeds, rabinMeaning}
+use Rattle.hoa_standard.specs.Machines.{buchiDone, rabinDone, streettDone, bareDone}
 use Rattle.table.specs.declared.Acceptance.the-variants as acceptance
 use Rattle.hoa_formula.specs.Walking.{freeWalk, Begins, Stands}
 use Rattle.hoa_formula.proofs.Rests.{Went, opens, infs, fins, truths, brackets, numbers, shuts, closed, ands, ors, begun, forward, Some, went, walked, go-is}

@@ -9,20 +9,20 @@ use Rattle.table.specs.declared.Acceptance.{Acceptance}
 use Rattle.table.specs.declared.Acceptance.the-variants as acceptance
 use Rattle.hoa_tokens.specs.declared.Kind.{Kind}
 use Rattle.hoa_tokens.specs.declared.Kind.the-variants as kind-is
-use Rattle.hoa_formula.specs.declared.machine.Piece.{Piece}
-use Rattle.hoa_formula.specs.declared.machine.Piece.the-variants as piece-is
-use Rattle.hoa_formula.specs.declared.machine.Past.{Past}
-use Rattle.hoa_formula.specs.declared.machine.Past.the-variants as past-is
-use Rattle.hoa_formula.specs.declared.step.Stage.{Stage}
-use Rattle.hoa_formula.specs.declared.step.Stage.the-variants as stage-is
-use Rattle.hoa_formula.specs.declared.needs.Needs.{Needs}
+use Rattle.hoa_standard.specs.declared.Piece.{Piece}
+use Rattle.hoa_standard.specs.declared.Piece.the-variants as piece-is
+use Rattle.hoa_standard.specs.declared.Past.{Past}
+use Rattle.hoa_standard.specs.declared.Past.the-variants as past-is
+use Rattle.hoa_turn.specs.declared.step.Stage.{Stage}
+use Rattle.hoa_turn.specs.declared.step.Stage.the-variants as stage-is
+use Rattle.hoa_turn.specs.declared.needs.Needs.{Needs}
 use Rattle.hoa_formula.specs.declared.Complete.{Complete}
 use Rattle.hoa_formula.specs.declared.Complete.the-variants as complete-is
 use Rattle.hoa_formula.specs.declared.FormulaFound.{FormulaFound}
 use Rattle.hoa_formula.specs.declared.FormulaFound.the-variants as found-is
 use Rattle.hoa_formula.specs.declared.FormulaRead.{FormulaRead}
-use Rattle.hoa_formula.specs.Standard.{FormulaMeaning, standard, short, noNeeds, rabinMeaning}
-use Rattle.hoa_formula.specs.Formulas.{wordPiece, signPiece}
+use Rattle.hoa_standard.specs.Standard.{FormulaMeaning, standard, short, noNeeds, rabinMeaning}
+use Rattle.hoa_standard.specs.Formulas.{wordPiece, signPiece}
 
 -- what a token's kind is to a formula
 abbrev pub kindPiece : Kind → Piece

@@ -14,20 +14,20 @@ use Rattle.hoa_step.specs.declared.Given.the-variants.{Not, Value}
 use Rattle.hoa_step.specs.Given.{notBelow}
 use Rattle.hoa_step.specs.Machine.{End, go, wrong, doneAt, wrongAt}
 use Rattle.hoa_label.specs.Labels.{labelBegin}
-use Rattle.hoa_rows.specs.declared.Limits.{Limits}
-use Rattle.hoa_rows.specs.declared.Entry.{Entry}
-use Rattle.hoa_rows.specs.declared.Entry.the-variants as entry-is
-use Rattle.hoa_rows.specs.declared.held.RowsSoFar.{RowsSoFar}
-use Rattle.hoa_rows.specs.declared.held.Ending.{Ending}
-use Rattle.hoa_rows.specs.declared.held.Ending.the-variants as ending-is
+use Rattle.hoa_entry.specs.declared.Limits.{Limits}
+use Rattle.hoa_entry.specs.declared.Entry.{Entry}
+use Rattle.hoa_entry.specs.declared.Entry.the-variants as entry-is
+use Rattle.hoa_kept.specs.declared.held.RowsSoFar.{RowsSoFar}
+use Rattle.hoa_rows.specs.declared.reader.Ending.{Ending}
+use Rattle.hoa_rows.specs.declared.reader.Ending.the-variants as ending-is
 use Rattle.hoa_rows.specs.declared.reader.Admitted.{Admitted}
 use Rattle.hoa_rows.specs.declared.reader.Admitted.the-variants as admitted-is
 use Rattle.hoa_rows.specs.declared.reader.Turn.{Turn}
 use Rattle.hoa_rows.specs.declared.reader.Turn.the-variants as turn-is
-use Rattle.hoa_rows.specs.Rows as spec
-use Rattle.hoa_rows.specs.Rows.{Rows, RowStep, entries, rowNumber, inLabel, closing}
-use Rattle.hoa_rows.specs.inner.Reads.{from, Onward}
-use Rattle.hoa_rows.specs.inner.Held.{Holds, Room}
+use Rattle.hoa_entry.specs.Rows as spec
+use Rattle.hoa_entry.specs.Rows.{Rows, RowStep, entries, rowNumber, inLabel, closing}
+use Rattle.hoa_entry.specs.inner.Reads.{from, Onward}
+use Rattle.hoa_kept.specs.inner.Held.{Holds, Room}
 
 -- ---- what may begin
 

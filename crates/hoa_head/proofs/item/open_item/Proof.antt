@@ -3,8 +3,8 @@
 use mathlib.Core.Path.{_∙_, sym}
 use denote.Ref.{now}
 use Rattle.hoa_head.proofs.Items.{opened-goes, opened-wrong, opens-acc-name, opens-marks, opens-name, opens-props, opens-start, opens-states, opens-tool, second-is}
-use Rattle.hoa_head.specs.Head.{withAccName, withName, withTool}
-use Rattle.hoa_head.specs.Heading.{accName, hints, marksInt, nameText, propsInt, startInt, statesInt, toolText}
+use Rattle.hoa_value.specs.Head.{withAccName, withName, withTool}
+use Rattle.hoa_value.specs.Heading.{accName, hints, marksInt, nameText, propsInt, startInt, statesInt, toolText}
 use mathlib.Core.Bool.{false, true}
 use borrow.Author.Needs.{needs}
 use Rattle.hoa_head.proofs.item.open_item.Statement.{statement}

@@ -1,8 +1,8 @@
 -- `item::take_name` meets its contract: the header's mark is set, and the rest is what `read_name` finds (`passed-turned`). Assumes nothing.
 use denote.Ref.{now}
 use Rattle.hoa_head.proofs.Items.{passed-turned}
-use Rattle.hoa_head.specs.Head.{withName}
-use Rattle.hoa_head.specs.Heading.{nameText}
+use Rattle.hoa_value.specs.Head.{withName}
+use Rattle.hoa_value.specs.Heading.{nameText}
 use borrow.Author.Needs.{needs}
 use Rattle.hoa_head.proofs.item.take_name.Statement.{statement}
 use Rattle.hoa_head.proofs.item.take_name.Tie as tie

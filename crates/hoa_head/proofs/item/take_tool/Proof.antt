@@ -1,8 +1,8 @@
 -- `item::take_tool` meets its contract: the header's mark is set, and the rest is what `read_tool` finds (`passed-turned`). Assumes nothing.
 use denote.Ref.{now}
 use Rattle.hoa_head.proofs.Items.{passed-turned}
-use Rattle.hoa_head.specs.Head.{withTool}
-use Rattle.hoa_head.specs.Heading.{toolText}
+use Rattle.hoa_value.specs.Head.{withTool}
+use Rattle.hoa_value.specs.Heading.{toolText}
 use borrow.Author.Needs.{needs}
 use Rattle.hoa_head.proofs.item.take_tool.Statement.{statement}
 use Rattle.hoa_head.proofs.item.take_tool.Tie as tie

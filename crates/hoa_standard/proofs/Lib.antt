@@ -1,0 +1,2 @@
+-- Sides: how the reader's cases go on, for its functions
+pub mod Sides

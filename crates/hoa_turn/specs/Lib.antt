@@ -1,0 +1,2 @@
+-- inner: what the functions ask and promise
+pub mod inner

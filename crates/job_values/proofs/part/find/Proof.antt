@@ -5,12 +5,12 @@ use Prim.Native.Nat.{_+_, _-_, _≤_}
 use native.Mathlib.Nat.{le-refl}
 use denote.Ref.{now}
 use lib.ListN.{length, drop}
-use Rattle.job_text.specs.Text.{ahead}
-use Rattle.job_text.proofs.Text.{ahead-hit, ahead-miss, ahead-end, reach}
+use Rattle.job_values.specs.Bytes.{ahead}
+use Rattle.job_values.proofs.Cut.{ahead-hit, ahead-miss, ahead-end, reach}
 use borrow.Author.Needs.{needs}
 use native.Mathlib.Omega.{arith}
-use Rattle.job_text.proofs.part.find.Statement.{statement}
-use Rattle.job_text.proofs.part.find.Tie as tie
+use Rattle.job_values.proofs.part.find.Statement.{statement}
+use Rattle.job_values.proofs.part.find.Tie as tie
 
 abbrev Inv-loop : tie.InvT-loop
 Inv-loop bytes from byte i₀ i = (from ≤ i) × (from + ahead byte (drop from bytes) ≡ i + ahead byte (drop i bytes))

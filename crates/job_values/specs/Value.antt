@@ -7,53 +7,19 @@ use Prim.Native.Nat.{ℕ, zero, suc, _+_, _-_, _*_}
 use lib.Dec.{leb, ltb, eqb}
 use lib.ListN.{length, getD, replicate}
 use Rattle.marks.specs.Mark.{width}
-use Rattle.digits.specs.Digit.{digit, hexDigit}
+use Rattle.job_values.specs.Number.{andThen, number, hexWord}
 use Rattle.table.specs.declared.Acceptance.{Acceptance}
 use Rattle.table.specs.declared.Acceptance.the-variants as acceptance
 use Rattle.table.specs.Refusal.{mostStreett, mostRabin}
-use Rattle.job_text.specs.declared.value.Form.{Form}
-use Rattle.job_text.specs.declared.value.Form.the-variants.{One, Two}
-use Rattle.job_text.specs.declared.value.Kind.{Kind}
-use Rattle.job_text.specs.declared.value.Kind.the-variants.{Buchi, Streett, Rabin}
-use Rattle.job_text.specs.Text.{fields, same}
+use Rattle.job_values.specs.declared.value.Form.{Form}
+use Rattle.job_values.specs.declared.value.Form.the-variants.{One, Two}
+use Rattle.job_values.specs.declared.value.Kind.{Kind}
+use Rattle.job_values.specs.declared.value.Kind.the-variants.{Buchi, Streett, Rabin}
+use Rattle.job_values.specs.Bytes.{fields, same}
 
 -- the numbers, and zeros up to n cells
 abbrev pub padTo : ℕ → List ℕ → List ℕ
 padTo n xs = xs ++ replicate (n - length xs) 0
-
-abbrev pub andThen : {A B : Type 0} → Option A → (A → Option B) → Option B
-andThen none f = none
-andThen (some a) f = f a
-
--- ---- digits
-
--- the number that digits spell, the first the highest, where the digits before them spell n
-unfoldable pub spelt : (ℕ → Option ℕ) → ℕ → ℕ → List ℕ → Option ℕ
-spelt value base n [] = some n
-spelt value base n (b ∷ bs) = andThen (value b) (λ d. spelt value base (n * base + d) bs)
-
--- ---- "Numbers are decimal, no leading zeros, at most 65,535."
-
-abbrev pub mostNumber : ℕ
-mostNumber = 65535
-
-abbrev pub leadingZero : List ℕ → Bool
-leadingZero bs = ltb 1 (length bs) && eqb (getD bs 0 0) 48
-
-abbrev pub atMost : ℕ → Option ℕ → Option ℕ
-atMost most none = none
-atMost most (some n) = cond (leb n most) (some n) none
-
-unfoldable pub number : List ℕ → Option ℕ
-number bs = cond (eqb (length bs) 0) none (cond (leadingZero bs) none (atMost mostNumber (spelt digit 10 0 bs)))
-
--- ---- "marks as eight lower-case hex digits"
-
-abbrev pub hexDigits : ℕ
-hexDigits = 8
-
-unfoldable pub hexWord : List ℕ → Option ℕ
-hexWord bs = cond (eqb (length bs) hexDigits) (spelt hexDigit 16 0 bs) none
 
 -- ---- "An edge line is from, to, and marks"
 

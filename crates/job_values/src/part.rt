@@ -1,6 +1,6 @@
 // Parts of a text: where a byte stands, and whether two parts are the same bytes. Relies on nothing.
 ghost use mathlib.Core.Path.{_≡_};
-ghost use Rattle.job_text.specs.Text.{FirstAt, same};
+ghost use Rattle.job_values.specs.Bytes.{FirstAt, same};
 
 // The first place from `from` on at which the byte stands; the end where there is none.
 pub fn find(bytes: &[u8], from: usize, byte: u8) -> usize

@@ -4,12 +4,12 @@ use mathlib.Core.Path.{_≡_, refl, sym, _∙_}
 use Prim.Native.Nat.{_≤_, _-_, zero-le}
 use denote.Ref.{now}
 use lib.ListN.{length, drop}
-use Rattle.job_text.specs.Text.{same}
-use Rattle.job_text.proofs.Text.{same-more, same-other, same-end, same-length}
+use Rattle.job_values.specs.Bytes.{same}
+use Rattle.job_values.proofs.Cut.{same-more, same-other, same-end, same-length}
 use borrow.Author.Needs.{needs}
 use native.Mathlib.Omega.{arith}
-use Rattle.job_text.proofs.part.alike.Statement.{statement}
-use Rattle.job_text.proofs.part.alike.Tie as tie
+use Rattle.job_values.proofs.part.alike.Statement.{statement}
+use Rattle.job_values.proofs.part.alike.Tie as tie
 
 abbrev Inv-loop : tie.InvT-loop
 Inv-loop bytes word i₀ i = (i ≤ length bytes) × (same bytes word ≡ same (drop i bytes) (drop i word))

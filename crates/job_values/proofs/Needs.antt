@@ -18,7 +18,8 @@ use Rattle.job_values.specs.Number.{andThen, number}
 use Rattle.job_values.specs.Value.{padTo, padded, eight, listed, dash, hasNeeds, mostCount, needs}
 use Rattle.job_values.specs.Column.{given}
 use Rattle.job_values.specs.inner.Field.{Within, Ended, Then, Got, Lost, agree}
-use Rattle.job_values.specs.inner.Told.{Unformed}
+use Rattle.job_values.specs.declared.value.NeedList.{NeedList}
+use Rattle.job_values.specs.inner.Told.{Unformed, ListBy, ListAt}
 use Rattle.job_values.proofs.Cut.{byTest, fields-cut, fields-uncut}
 use Rattle.job_values.proofs.Sets.{Apart, then-apart, stuck-also}
 use Rattle.job_values.proofs.Numbers.{zero-number}
@@ -293,6 +294,13 @@ module _ (k : Kind) (count : ℕ) where
   pub listed-needs : hasNeeds k count ≡ true → (v : List ℕ) → eight (listed count (fields v)) ≡ needs k count v
   unfolding needs
   listed-needs t v = rw t
+
+  pub listed-told : hasNeeds k count ≡ true → (text : List ℕ) (at end : ℕ) (l : NeedList) → ListAt (λ v. eight (listed count (fields v))) text at end l → ListAt (needs k count) text at end l
+  listed-told t text at end l h = go (l .formed) h
+    where
+      go : (b : Bool) → ListBy b (λ v. eight (listed count (fields v))) text at end l → ListBy b (needs k count) text at end l
+      go true e = sym (listed-needs t (part at end text)) ∙ e
+      go false u = unformed-also (λ v. eight (listed count (fields v))) (needs k count) (λ v. ap given (listed-needs t v)) text at end (l .wrong) u
 
   module _ (t : hasNeeds k count ≡ false) where
     pub dash-needs : (v : List ℕ) → same v dash ≡ true → needs k count v ≡ some (padded [])

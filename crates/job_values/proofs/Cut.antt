@@ -1,15 +1,16 @@
 -- Cutting a text at a byte: what a search for the byte finds, and what that says of fields. Assumes nothing.
 use mathlib.Core.Path.{_≡_, refl, ap, _∙_}
-use mathlib.Core.Bool.{Bool, true, false, _&&_}
+use mathlib.Core.Bool.{Bool, true, false, cond, _&&_}
 use mathlib.Core.List.{List, [], _∷_}
 use Prim.Native.Nat.{ℕ, suc, _+_, _-_, _≤_, _<_, zero-le, suc-le-suc}
 use native.Mathlib.Nat.{le-of-suc-le-suc}
 use native.Mathlib.Numerals.{add-one}
 use native.Mathlib.Omega.{arith}
-use lib.Dec.{eqb}
+use lib.Dec.{eqb, leb}
 use lib.ListN.{length, getD, take, drop, drop-of-length-le, length-drop}
 use lib.Seq.{drop-cons, drop-drop, take-all}
-use borrow.Author.Tests.{eq-eqb, ne-eqb}
+use borrow.Author.Tests.{eq-eqb, ne-eqb, le-leb, lt-leb}
+use Rattle.marks.proofs.Cases.{below}
 use Rattle.job_values.specs.Bytes.{comma, fields, longerField, same, ahead, FirstAt}
 use Rattle.table.specs.Row.{part}
 
@@ -74,6 +75,19 @@ pub field-last : (xs : List ℕ) (i e : ℕ) → FirstAt xs i comma e → i ≤ 
 field-last xs i e f h l =
     fields-uncut (drop i xs) (omega (arith, f .place, length-drop i xs))
     ∙ rw (take-all (length xs - i) (drop i xs) (omega (arith, length-drop i xs)))
+
+-- the fields from place `at` on: none where it is past the end
+abbrev pub left : List ℕ → ℕ → List (List ℕ)
+left bs at = cond (leb at (length bs)) (fields (drop at bs)) []
+
+-- the field at `at`, and those after it
+pub left-cut : (bs : List ℕ) (at e : ℕ) → at ≤ length bs → FirstAt bs at comma e → left bs at ≡ part at e bs ∷ left bs (e + 1)
+left-cut bs at e l f =
+    below e (length bs)
+    (λ k. rw (le-leb at (length bs) l, le-leb (e + 1) (length bs) (omega arith)) (field-at bs at e f k))
+    (λ k.
+    let q : e ≡ length bs = omega (arith, f .high l) in
+    rw (le-leb at (length bs) l, lt-leb (e + 1) (length bs) (omega arith), q) (field-last bs at e f l k))
 
 -- after the first comma, at i, and up to the next search's end j
 module _ (xs : List ℕ) (i j : ℕ) (first : FirstAt xs 0 comma i) (within : i < length xs) (next : FirstAt xs (i + 1) comma j) where

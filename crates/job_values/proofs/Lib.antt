@@ -1,5 +1,6 @@
 pub mod Sets
 pub mod Cut
+pub mod Pad
 pub mod Numbers
 pub mod Fields
 pub mod Runs
@@ -9,3 +10,4 @@ pub mod Losses
 pub mod Edges
 pub mod Spoken
 pub mod Needs
+pub mod Columns

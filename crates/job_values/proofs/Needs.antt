@@ -20,6 +20,7 @@ use Rattle.job_values.specs.Column.{given}
 use Rattle.job_values.specs.inner.Field.{Within, Ended, Then, Got, Lost, agree}
 use Rattle.job_values.specs.declared.value.NeedList.{NeedList}
 use Rattle.job_values.specs.inner.Told.{Unformed, ListBy, ListAt}
+use Rattle.job_values.proofs.Pad.{pad-more}
 use Rattle.job_values.proofs.Cut.{byTest, fields-cut, fields-uncut}
 use Rattle.job_values.proofs.Sets.{Apart, then-apart, stuck-also}
 use Rattle.job_values.proofs.Numbers.{zero-number}
@@ -166,12 +167,6 @@ part-behind text at end x next w g =
     let f : drop at text ≡ (g .value ++ (comma ∷ [])) ++ drop next text = g .is ∙ sym (append-assoc (g .value) (comma ∷ []) (drop next text)) in
     ap (take (end - at)) f ∙ ap (λ (m : ℕ). take m ((g .value ++ (comma ∷ [])) ++ drop next text)) (sym n)
     ∙ take-append-add (g .value ++ (comma ∷ [])) (drop next text) (end - next) ∙ append-assoc (g .value) (comma ∷ []) (part next end text)
-
-pad-more : (n : ℕ) (xs : List ℕ) (v : ℕ) → length xs < n → set (padTo n xs) (length xs) v ≡ padTo n (xs ++ (v ∷ []))
-pad-more n xs v l =
-    let a : n - length xs ≡ suc (n - suc (length xs)) = omega arith in
-    let b : n - length (xs ++ (v ∷ [])) ≡ n - suc (length xs) = omega (arith, length-append xs (v ∷ [])) in
-    rw (a, b, append-assoc) (set-append-seam xs 0 (replicate (n - suc (length xs)) 0) v)
 
 -- after i fields: their numbers stand in the first cells, and what follows decides
 pub record SoFar (text : List ℕ) (at end last : ℕ) (cells : List ℕ) (next i : ℕ) : Type 0 where

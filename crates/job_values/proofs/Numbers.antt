@@ -4,10 +4,11 @@ use mathlib.Core.Bool.{Bool, true, false, false≢true, cond, _&&_}
 use mathlib.Core.List.{List, [], _∷_, _++_}
 use mathlib.Core.Option.{Option, some, none}
 use Prim.Native.Nat.{ℕ, zero, suc, _+_, _-_, _*_, _≤_, _<_}
+use native.Mathlib.Numerals.{add-one}
 use native.Mathlib.Omega.{arith}
 use lib.Dec.{leb, ltb, eqb}
-use lib.ListN.{length, getD, take, drop, length-append, length-drop, List·getD-append}
-use lib.Seq.{take-suc, getD-drop}
+use lib.ListN.{length, getD, take, drop, drop-of-length-le, length-append, length-drop, List·getD-append}
+use lib.Seq.{take-suc, getD-drop, drop-cons}
 use borrow.Author.Tests.{eq-eqb, ne-eqb, le-leb, lt-leb, leb-false, lt-ltb, ltb-true, eqb-true}
 use Rattle.table.specs.Row.{part}
 use Rattle.digits.specs.Digit.{digit, hexDigit}
@@ -53,6 +54,22 @@ module _ (value : ℕ → Option ℕ) (base : ℕ) where
       go : (o : Option ℕ) → andThen o (λ m. spelt value base m (b ∷ q)) ≡ none
       go none = refl
       go (some m) = stop-first m b q f
+
+  -- a digit more
+  pub spelt-more : (bs : List ℕ) (i n d : ℕ) → i < length bs → value (getD bs i 0) ≡ some d
+      → spelt value base n (drop i bs) ≡ spelt value base (n * base + d) (drop (i + 1) bs)
+  unfolding spelt
+  spelt-more bs i n d l e = rw (drop-cons bs i 0 l, e, add-one i)
+
+  -- no digit
+  pub spelt-wrong : (bs : List ℕ) (i n : ℕ) → i < length bs → value (getD bs i 0) ≡ none → spelt value base n (drop i bs) ≡ none
+  unfolding spelt
+  spelt-wrong bs i n l e = rw (drop-cons bs i 0 l, e)
+
+  -- the last digit was taken
+  pub spelt-end : (bs : List ℕ) (i n : ℕ) → length bs ≤ i → spelt value base n (drop i bs) ≡ some n
+  unfolding spelt
+  spelt-end bs i n l = rw (drop-of-length-le bs l)
 
 -- a number that is too large stays so
 pub too-large : (value : ℕ → Option ℕ) (most n : ℕ) (bs : List ℕ) → most < n → atMost most (spelt value 10 n bs) ≡ none

@@ -2,6 +2,8 @@
 pub mod Bytes
 -- Number: the form of numbers and of mark sets
 pub mod Number
+-- Given: what the reader of a number says
+pub mod Given
 -- Column: where a line stops being of its form
 pub mod Column
 -- Value: the form of edges, kinds, forms and needs

@@ -1,11 +1,11 @@
--- `value::read_number` meets its contract: the tests are the rule's, and the digits are read last. Assumes nothing.
+-- `number::read_number` meets its contract: the tests are the rule's, and the digits are read last. Assumes nothing.
 use denote.Ref.{now}
 use lib.ListN.{length}
 use borrow.Author.Tests.{eq-eqb, ne-eqb}
-use Rattle.job_text.specs.Value.{number}
+use Rattle.job_values.specs.Number.{number}
 use borrow.Author.Needs.{needs}
-use Rattle.job_text.proofs.value.read_number.Statement.{statement}
-use Rattle.job_text.proofs.value.read_number.Tie as tie
+use Rattle.job_values.proofs.number.read_number.Statement.{statement}
+use Rattle.job_values.proofs.number.read_number.Tie as tie
 
 returns : tie.Need-returns
 unfolding number

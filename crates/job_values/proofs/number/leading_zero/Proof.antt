@@ -1,10 +1,10 @@
--- `value::leading_zero` meets its contract: the two tests are the rule's. Assumes nothing.
+-- `number::leading_zero` meets its contract: the two tests are the rule's. Assumes nothing.
 use denote.Ref.{now}
 use lib.ListN.{length}
 use borrow.Author.Tests.{le-ltb, lt-ltb}
 use borrow.Author.Needs.{needs}
-use Rattle.job_text.proofs.value.leading_zero.Statement.{statement}
-use Rattle.job_text.proofs.value.leading_zero.Tie as tie
+use Rattle.job_values.proofs.number.leading_zero.Statement.{statement}
+use Rattle.job_values.proofs.number.leading_zero.Tie as tie
 
 returns : tie.Need-returns
 returns c = rw (le-ltb 1 (length (now (c .before .args .bytes))) (c .if1 .taken))

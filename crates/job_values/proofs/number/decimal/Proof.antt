@@ -1,4 +1,4 @@
--- `value::decimal` meets its contract: the digits passed spell the value so far, which the next digit takes on (`spelt-more`); once it is too
+-- `number::decimal` meets its contract: the digits passed spell the value so far, which the next digit takes on (`spelt-more`); once it is too
 -- large it stays so (`too-large`). The measure is what is left of the bytes. Assumes nothing.
 use mathlib.Core.Path.{_≡_, refl, sym, ap, _∙_}
 use Prim.Native.Nat.{ℕ, _+_, _*_, _≤_, _-_, zero-le}
@@ -6,15 +6,15 @@ use mathlib.Core.Option.{some, none}
 use denote.Ref.{now}
 use lib.ListN.{length, getD, drop}
 use borrow.Author.Tests.{le-leb}
-use Rattle.job_text.specs.Value.{spelt, mostNumber}
+use Rattle.job_values.specs.Number.{spelt, mostNumber}
 use Rattle.digits.specs.Digit.{digit}
 use Rattle.digits.specs.Given.{digitGiven}
 use Rattle.digits.proofs.Digits.{digit-below}
-use Rattle.job_text.proofs.Values.{spelt-more, spelt-wrong, spelt-end, too-large}
+use Rattle.job_values.proofs.Numbers.{spelt-more, spelt-wrong, spelt-end, too-large}
 use borrow.Author.Needs.{needs}
 use native.Mathlib.Omega.{arith}
-use Rattle.job_text.proofs.value.decimal.Statement.{statement}
-use Rattle.job_text.proofs.value.decimal.Tie as tie
+use Rattle.job_values.proofs.number.decimal.Statement.{statement}
+use Rattle.job_values.proofs.number.decimal.Tie as tie
 
 abbrev Inv-loop : tie.InvT-loop
 Inv-loop bytes value₀ i₀ value i = (i ≤ length bytes) × (value ≤ mostNumber) × (spelt digit 10 0 bytes ≡ spelt digit 10 value (drop i bytes))

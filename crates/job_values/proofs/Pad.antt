@@ -5,7 +5,7 @@ use Prim.Native.Nat.{ℕ, suc, _-_, _<_}
 use native.Mathlib.Omega.{arith}
 use lib.ListN.{length, set, replicate, length-append}
 use lib.Seq.{set-append-seam}
-use Rattle.job_text.specs.Value.{padTo}
+use Rattle.job_values.specs.Value.{padTo}
 
 pub pad-more : (n : ℕ) (xs : List ℕ) (v : ℕ) → length xs < n → set (padTo n xs) (length xs) v ≡ padTo n (xs ++ (v ∷ []))
 pad-more n xs v l =

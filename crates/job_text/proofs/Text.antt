@@ -6,9 +6,8 @@ use native.Mathlib.Nat.{le-of-suc-le-suc}
 use native.Mathlib.Omega.{arith}
 use lib.Dec.{eqb}
 use lib.ListN.{length, take, drop}
-use Rattle.job_values.specs.Bytes.{newline, ahead}
-use Rattle.job_values.proofs.Cut.{byTest}
-use Rattle.job_text.specs.Text.{Lines, done, broken, line, longer, lines}
+pub use Rattle.job_values.proofs.Cut.{byTest, same-length}
+use Rattle.job_text.specs.Text.{newline, ahead, Lines, done, broken, line, longer, lines}
 
 -- ---- lines
 

@@ -8,14 +8,12 @@ use Prim.Native.Nat.{ℕ, zero, suc, _+_}
 use lib.Dec.{ltb}
 use lib.ListN.{length, drop}
 use Rattle.table.specs.declared.Acceptance.{Acceptance}
-use Rattle.job_text.specs.declared.value.Kind.{Kind}
-use Rattle.job_text.specs.declared.value.Form.{Form}
-use Rattle.job_text.specs.declared.value.Form.the-variants.{One}
-use Rattle.job_values.specs.Bytes.{newline}
-use Rattle.job_values.specs.Number.{number}
+use Rattle.job_values.specs.declared.value.Kind.{Kind}
+use Rattle.job_values.specs.declared.value.Form.{Form}
+use Rattle.job_values.specs.declared.value.Form.the-variants.{One}
 use Rattle.job_values.specs.Column.{given, RightLine, FirstWrong}
-use Rattle.job_text.specs.Text.{Lines, done, broken, line, lines, begins}
-use Rattle.job_text.specs.Value.{textForm, kind, usualKind, needs, Edge, edge, end, condition, mostCount}
+use Rattle.job_text.specs.Text.{newline, Lines, done, broken, line, lines, begins}
+use Rattle.job_text.specs.Value.{number, textForm, kind, usualKind, needs, Edge, edge, end, condition, mostCount}
 
 -- ---- the limits: "Program limits (23): 256 states, 512 edges, count above what row 4 allows."
 

@@ -59,8 +59,8 @@ module _ (key : List ℕ) {A : Type 0} (form : List ℕ → Option A) where
       let v = part from end text ++ (newline ∷ []) in
       let n : length v ≡ suc (end - from) = omega (arith, length-append (part from end text) (newline ∷ []), value-long text from end w []) in
       let s : Stuck (Ended newline form) v (e - from) =
-          stuck-cut (Ended newline form) v (drop (suc end) text) (e - from) (omega (arith, u .lost .ordered, u .lost .ends, n))
-          (subst (λ (z : List ℕ). Stuck (Ended newline form) z (e - from)) (line-is text from end w) (u .lost .stuck)) in
+      stuck-cut (Ended newline form) v (drop (suc end) text) (e - from) (omega (arith, u .lost .ordered, u .lost .ends, n))
+      (subst (λ (z : List ℕ). Stuck (Ended newline form) z (e - from)) (line-is text from end w) (u .lost .stuck)) in
       stuck-first (RightLine key (λ u. given (form u))) (key ++ v) (length key + (e - from))
       (stuck-also (Then Key (Ended newline form)) (RightLine key (λ u. given (form u))) right-in right-out (key ++ v) (length key + (e - from))
       (then-back Key (Ended newline form) key v (e - from) keys-apart refl s))

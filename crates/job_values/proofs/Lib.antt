@@ -11,3 +11,4 @@ pub mod Edges
 pub mod Spoken
 pub mod Needs
 pub mod Columns
+pub mod Promises

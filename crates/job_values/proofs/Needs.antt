@@ -147,7 +147,7 @@ needs-out (suc k) l r =
     let y = given-list (Listed k (b .value)) (b .right) in
     let v = f .value ++ (comma ∷ b .value) in
     let e : Listed (suc k) v ≡ some (x .0 ∷ y .0) =
-        rw (fields-front (f .value) (b .value) (number-free comma comma-digit (f .value) (f .right))) (listed-more (suc k) (f .value) (fields (b .value)) (x .0) (y .0) (x .1) (y .1)) in
+    rw (fields-front (f .value) (b .value) (number-free comma comma-digit (f .value) (f .right))) (listed-more (suc k) (f .value) (fields (b .value)) (x .0) (y .0) (x .1) (y .1)) in
     record {
       value = v;
       right = given-some (Listed (suc k) v) (x .0 ∷ y .0) e;
@@ -163,7 +163,7 @@ part-behind : (text : List ℕ) (at end x next : ℕ) → Within text at end →
 part-behind text at end x next w g =
     let v = got-within text at end w number x next g in
     let n : length (g .value ++ (comma ∷ [])) + (end - next) ≡ end - at =
-        omega (arith, ap length (g .is), length-append (g .value) (comma ∷ drop next text), length-append (g .value) (comma ∷ []), length-drop at text, length-drop next text, g .behind, v .ordered, w .ends) in
+    omega (arith, ap length (g .is), length-append (g .value) (comma ∷ drop next text), length-append (g .value) (comma ∷ []), length-drop at text, length-drop next text, g .behind, v .ordered, w .ends) in
     let f : drop at text ≡ (g .value ++ (comma ∷ [])) ++ drop next text = g .is ∙ sym (append-assoc (g .value) (comma ∷ []) (drop next text)) in
     ap (take (end - at)) f ∙ ap (λ (m : ℕ). take m ((g .value ++ (comma ∷ [])) ++ drop next text)) (sym n)
     ∙ take-append-add (g .value ++ (comma ∷ [])) (drop next text) (end - next) ∙ append-assoc (g .value) (comma ∷ []) (part next end text)
@@ -221,7 +221,7 @@ module _ (text : List ℕ) (at end last : ℕ) (cells : List ℕ) (next i : ℕ)
         more : (es : List ℕ) → Listed (last - (i + 1)) (part after end text) ≡ some es → Listed (last - i) (part next end text) ≡ some (d ∷ es)
         more es q =
             let f : fields (part next end text) ≡ g .value ∷ fields (part after end text) =
-                ap fields (part-behind text next end d after (s .within) g) ∙ fields-front (g .value) (part after end text) (number-free comma comma-digit (g .value) (given-some (number (g .value)) d (g .says))) in
+            ap fields (part-behind text next end d after (s .within) g) ∙ fields-front (g .value) (part after end text) (number-free comma comma-digit (g .value) (given-some (number (g .value)) d (g .says))) in
             rw (left, f) (listed-more (suc (last - (i + 1))) (g .value) (fields (part after end text)) d es (g .says) q)
 
   -- the last field
@@ -237,7 +237,7 @@ module _ (text : List ℕ) (at end last : ℕ) (cells : List ℕ) (next i : ℕ)
         let free = number-free newline newline-digit (g .value) (given-some (number (g .value)) d (g .says)) in
         let p : part next end text ≡ g .value = part-is text next end (s .within) (g .value) free (drop after text) (g .is) in
         let q : Listed 0 (part next end text) ≡ some (d ∷ []) =
-            rw (p, fields-last (g .value) (number-free comma comma-digit (g .value) (given-some (number (g .value)) d (g .says)))) (listed-one (g .value) d (g .says)) in
+        rw (p, fields-last (g .value) (number-free comma comma-digit (g .value) (given-some (number (g .value)) d (g .says)))) (listed-one (g .value) d (g .says)) in
         let a : Listed last (part at end text) ≡ some (s .given-so ++ (d ∷ [])) = s .said-so (d ∷ []) (subst (λ (n : ℕ). Listed n (part next end text) ≡ some (d ∷ [])) (sym done) q) in
         let k : length (s .given-so) ≡ last = s .many ∙ h in
         rw a (ap some (sym (rw (s .held, ← k) (pad-more mostRabin (s .given-so) d (omega (arith, k))))))

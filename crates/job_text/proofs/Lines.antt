@@ -10,7 +10,8 @@ use lib.Seq.{drop-drop, take-take, take-all, take-nil, drop-nil}
 use Rattle.table.specs.Row.{part}
 use Rattle.job_values.specs.Column.{given}
 use Rattle.job_values.specs.inner.Field.{Within}
-use Rattle.job_values.specs.inner.Told.{Unformed}
+use Rattle.job_values.specs.declared.value.NeedList.{NeedList}
+use Rattle.job_values.specs.inner.Told.{Unformed, ListBy, ListAt}
 use Rattle.job_values.proofs.Fields.{within-on}
 use Rattle.job_values.proofs.Columns.{unformed-wrong}
 use Rattle.job_text.specs.Text.{newline, line, lines, same, begins, ahead, FirstAt}
@@ -151,6 +152,15 @@ module _ (text : List ℕ) (at : ℕ) (key : List ℕ) (r : Span) (s : SpanAt te
     pub asked-says : (a : A) → r .found ≡ true → form (part (r .from) (r .end) text) ≡ some a → over a ≡ false
         → asked key form over (lines (drop at text)) ≡ says a (lines (drop (r .end + 1) text))
     asked-says a t e o = asked-there t ∙ rw (e, o)
+
+-- ---- what the needs' reader says
+
+module _ (form : List ℕ → Option (List ℕ)) (text : List ℕ) (at end : ℕ) (l : NeedList) (s : ListAt form text at end l) where
+  pub list-wrong : l .formed ≡ false → Unformed form text at end (l .wrong)
+  list-wrong t = subst (λ (b : Bool). ListBy b form text at end l) t s
+
+  pub list-right : l .formed ≡ true → form (part at end text) ≡ some (l .needs)
+  list-right t = subst (λ (b : Bool). ListBy b form text at end l) t s
 
 -- ---- a line that may be left out
 

@@ -1,15 +1,14 @@
 -- `line::need_line` meets its contract: 21 where the line is not found, then 22 by the needs' reader. Assumes nothing.
 use mathlib.Core.Path.{_≡_, refl, sym, subst}
-use mathlib.Core.Bool.{Bool}
 use denote.Ref.{now}
 use borrow.Author.Tests.{not-true, not-false}
-use Rattle.job_values.specs.inner.Told.{Unformed, ListBy}
+use Rattle.job_values.specs.inner.Told.{Unformed}
 use Rattle.job_text.specs.Value.{needs}
 use Rattle.job_text.specs.Job.{asked, unlimited, need=}
 use Rattle.job_text.specs.Given.{NeedAt}
 use Rattle.job_text.specs.Text.{lines}
 use lib.ListN.{drop}
-use Rattle.job_text.proofs.Lines.{wrong-fits, asked-missing, asked-malformed, asked-says}
+use Rattle.job_text.proofs.Lines.{wrong-fits, list-wrong, list-right, asked-missing, asked-malformed, asked-says}
 use borrow.Author.Needs.{needs as simple}
 use Rattle.job_text.proofs.line.need_line.Statement.{statement}
 use Rattle.job_text.proofs.line.need_line.Tie as tie
@@ -46,7 +45,7 @@ no-value c =
     let a = c .before .before .before .before .before .before .before .before .args in
     let f = c .before .before .before .before .before .find-line in
     let l = c .before .before .read-needs in
-    subst (λ (b : Bool). ListBy b (needs (a .kind) (a .count)) (now (a .text)) (f .result .from) (f .result .end) (l .result)) (not-true _ (c .if2 .taken)) (l .ensures)
+    list-wrong (needs (a .kind) (a .count)) (now (a .text)) (f .result .from) (f .result .end) (l .result) (l .ensures) (not-true _ (c .if2 .taken))
 
 fault-at-requires : tie.Need-fault-at-requires
 fault-at-requires c κs =
@@ -74,7 +73,7 @@ returns-3 c =
     let f = c .before .before .before .before .before .before .find-line in
     let l = c .before .before .before .read-needs in
     asked-says (now (a .text)) (a .at) need= (f .result) (f .ensures) (needs (a .kind) (a .count)) unlimited _ (not-false _ (c .before .before .before .before .if1 .left))
-    (subst (λ (b : Bool). ListBy b (needs (a .kind) (a .count)) (now (a .text)) (f .result .from) (f .result .end) (l .result)) (not-false _ (c .before .if2 .left)) (l .ensures)) refl
+    (list-right (needs (a .kind) (a .count)) (now (a .text)) (f .result .from) (f .result .end) (l .result) (l .ensures) (not-false _ (c .before .if2 .left))) refl
 
 pub need-line-spec : {M : Type 1} → statement M
 need-line-spec =

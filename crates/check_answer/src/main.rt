@@ -7,8 +7,8 @@ use libc::STDOUT_FILENO;
 use text_input::Input;
 use text_input::read_input;
 
-// One byte more than the longest job (12,288) and the longest answer text (65,536) have together: with so many, whatever follows changes nothing. Where the job ends
-// within 12,288 bytes, the answer text is too long (50); else the job is (20).
+// One byte more than the longest job (12,288) and the longest answer text (65,536) have together: with so many, whatever follows changes nothing
+// (crates/check_text/proofs/Settled.antt).
 const MOST_READ: usize = 77825;
 
 // Checks an input and writes the result.

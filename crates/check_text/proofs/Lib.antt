@@ -6,5 +6,7 @@ pub mod Positions
 pub mod Replies
 -- Long: an answer text that is too long is told as 50
 pub mod Long
+-- Settled: one byte more than the longest job and answer settles every longer input
+pub mod Settled
 -- Unique: one result for one input
 pub mod Unique

@@ -21,7 +21,7 @@ pub no-line-yet : (input : List ℕ) → jobSize input ≡ sizeFrom (length inpu
 unfolding jobSize
 no-line-yet input = refl
 
-unended-size : (all at : ℕ) (xs : List ℕ) → sizeFrom all at (unended xs) ≡ all
+pub unended-size : (all at : ℕ) (xs : List ℕ) → sizeFrom all at (unended xs) ≡ all
 unfolding sizeFrom
 unended-size all at [] = refl
 unended-size all at (x ∷ xs) = refl

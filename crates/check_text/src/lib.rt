@@ -14,7 +14,7 @@ ghost use Rattle.puts.specs.Put.{Put, PutFew};
 ghost use Rattle.check_text.specs.Replied.{topText, faultLines, checkedText, CheckReplied};
 ghost use Rattle.check_text.specs.inner.{JobEnds, HeardTo, Slight};
 
-// The longest answer text that is checked. Where an input is longer than the longest job and this, whatever follows changes nothing.
+// The longest answer text that is checked.
 pub const MOST_ANSWER: usize = 65536;
 
 // No printed result is longer.

@@ -1,8 +1,9 @@
-// Judges the shift cases 1 to 13 of docs/RULES.md, and prints a line for each: the case, the verdict, number and place, the pair,
-// the edges of prefix and cycle. Room and scratch hold 7 before.
+// Judges the shift cases 1 to 13 of docs/RULES.md and tables of stored depths, and prints a line for each: the case, the verdict, number and
+// place, the pair, the depth, the edges of prefix and cycle. Room and scratch hold 7 before.
 use judging::judge;
 use libc::STDOUT_FILENO;
 use table::Acceptance;
+use table::Answer;
 use table::Verdict;
 
 fn print(text: &[u8]) {
@@ -60,7 +61,9 @@ fn print_lasso(room: &[u32], prefix: usize, cycle: usize) {
     }
 }
 
-fn print_answer(condition: Acceptance, verdict: Verdict, room: &[u32]) {
+fn print_answer(condition: Acceptance, answer: Answer, room: &[u32]) {
+    let verdict = answer.verdict;
+    let depth = answer.depth;
     match verdict {
         Verdict::Run {
             prefix,
@@ -69,15 +72,18 @@ fn print_answer(condition: Acceptance, verdict: Verdict, room: &[u32]) {
         } => {
             print_verdict(b"run", 0, 0);
             print_pair(condition, pair);
+            print_number(b" depth=", depth);
             print_lasso(room, prefix as usize, cycle as usize);
         }
         Verdict::Empty => {
             print_verdict(b"empty", 0, 0);
-            print(b" pair=- prefix=- cycle=-");
+            print_number(b" pair=- depth=", depth);
+            print(b" prefix=- cycle=-");
         }
         Verdict::Refused { number, place } => {
             print_verdict(b"refused", number, place);
-            print(b" pair=- prefix=- cycle=-");
+            print_number(b" pair=- depth=", depth);
+            print(b" prefix=- cycle=-");
         }
     }
     print(b"\n");
@@ -94,8 +100,8 @@ fn judge_case(
     need: u32,
 ) {
     let needs = [need, 0, 0, 0, 0, 0, 0, 0];
-    let mut room = [7u32; 16];
-    let mut scratch = [7u32; 128];
+    let mut room = [7u32; 24];
+    let mut scratch = [7u32; 144];
     print_number(b"case=", case);
     let answer = judge(
         n,
@@ -108,8 +114,7 @@ fn judge_case(
         &mut room,
         &mut scratch,
     );
-    let verdict = answer.verdict;
-    print_answer(condition, verdict, &room);
+    print_answer(condition, answer, &room);
 }
 
 // Table A: 0>1{}, 1>2{0}, 2>1{1}.
@@ -164,6 +169,62 @@ fn case_13() {
     judge_case(13, 2, &from, &to, &marks, Acceptance::Rabin(1), 1);
 }
 
+// 0>1{0}, 1>0{}: only lone states are left. Depth 1.
+fn case_21() {
+    let from = [0u32, 1];
+    let to = [1u32, 0];
+    let marks = [1u32, 0];
+    judge_case(21, 2, &from, &to, &marks, Acceptance::Streett(1), 0);
+}
+
+// 0>0{2}, 0>1{0,3}, 1>0{}. Depth 2.
+fn case_22() {
+    let from = [0u32, 0, 1];
+    let to = [0u32, 1, 0];
+    let marks = [4u32, 9, 0];
+    judge_case(22, 2, &from, &to, &marks, Acceptance::Streett(2), 0);
+}
+
+// 0>0{0}, 0>1{}, 1>1{2}, 1>2{0,3}, 2>1{}: the deepest part is not in the start's component. Depth 2.
+fn case_23() {
+    let from = [0u32, 0, 1, 1, 2];
+    let to = [0u32, 1, 1, 2, 1];
+    let marks = [1u32, 0, 4, 9, 0];
+    judge_case(23, 3, &from, &to, &marks, Acceptance::Streett(2), 0);
+}
+
+// 0>0{2}, 0>1{0,3}, 1>0{}, 1>2{}, 2>2{0}: here it is. Depth 2.
+fn case_24() {
+    let from = [0u32, 0, 1, 1, 2];
+    let to = [0u32, 1, 0, 2, 2];
+    let marks = [4u32, 9, 0, 0, 1];
+    judge_case(24, 3, &from, &to, &marks, Acceptance::Streett(2), 0);
+}
+
+// Sixteen loops at one state, loop i with the left mark of pair i and the right mark of the next: each round erases one. Depth 16.
+fn case_25() {
+    let ends = [0u32; 16];
+    let marks = [
+        0x9u32,
+        0x24,
+        0x90,
+        0x240,
+        0x900,
+        0x2400,
+        0x9000,
+        0x24000,
+        0x90000,
+        0x240000,
+        0x900000,
+        0x2400000,
+        0x9000000,
+        0x24000000,
+        0x90000000,
+        0x40000000,
+    ];
+    judge_case(25, 1, &ends, &ends, &marks, Acceptance::Streett(16), 0);
+}
+
 fn main() {
     table_a(1, Acceptance::Buchi(2), 0);
     table_a(2, Acceptance::Buchi(3), 0);
@@ -178,4 +239,9 @@ fn main() {
     case_11();
     case_12();
     case_13();
+    case_21();
+    case_22();
+    case_23();
+    case_24();
+    case_25();
 }

@@ -10,6 +10,7 @@ from pathlib import Path
 
 ROOT = Path(__file__).resolve().parent.parent
 SECOND = 1.0
+LINES = 7  # of a printed answer
 
 passed = failed = 0
 
@@ -55,7 +56,7 @@ def no_answer(name, done, words):
 
 
 def answered(name, done, status, first_line):
-    check(name, done.returncode == status and (done.stdout or b"").startswith(first_line + b"\n") and (done.stdout or b"").count(b"\n") == 6, *seen(done))
+    check(name, done.returncode == status and (done.stdout or b"").startswith(first_line + b"\n") and (done.stdout or b"").count(b"\n") == LINES, *seen(done))
 
 
 def quickest(start):

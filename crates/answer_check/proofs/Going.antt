@@ -40,6 +40,34 @@ union-none a =
     go i (inl h) = h
     go i (inr h) = absurd (has-none i h)
 
+pub none-union : (a : ℕ) → union 0 a ≡ a
+none-union a =
+    same-marks (union 0 a) a (λ i h. go i (has-union i 0 a .0 h)) (λ i h. has-union i 0 a .1 (inr h))
+  where
+    go : (i : ℕ) → has i 0 ⊎ has i a → has i a
+    go i (inl h) = absurd (has-none i h)
+    go i (inr h) = h
+
+union-assoc : (a b c : ℕ) → union (union a b) c ≡ union a (union b c)
+union-assoc a b c =
+    same-marks (union (union a b) c) (union a (union b c)) (λ i h. there i (has-union i (union a b) c .0 h)) (λ i h. back i (has-union i a (union b c) .0 h))
+  where
+    inner : (i : ℕ) → has i a ⊎ has i b → has i (union a (union b c))
+    inner i (inl h) = has-union i a (union b c) .1 (inl h)
+    inner i (inr h) = has-union i a (union b c) .1 (inr (has-union i b c .1 (inl h)))
+
+    there : (i : ℕ) → has i (union a b) ⊎ has i c → has i (union a (union b c))
+    there i (inl h) = inner i (has-union i a b .0 h)
+    there i (inr h) = has-union i a (union b c) .1 (inr (has-union i b c .1 (inr h)))
+
+    outer : (i : ℕ) → has i b ⊎ has i c → has i (union (union a b) c)
+    outer i (inl h) = has-union i (union a b) c .1 (inl (has-union i a b .1 (inr h)))
+    outer i (inr h) = has-union i (union a b) c .1 (inr h)
+
+    back : (i : ℕ) → has i a ⊎ has i (union b c) → has i (union (union a b) c)
+    back i (inl h) = has-union i (union a b) c .1 (inl (has-union i a b .1 (inl h)))
+    back i (inr h) = outer i (has-union i b c .0 h)
+
 -- ---- one edge
 
 -- a state that no edge leaves is a stop state
@@ -102,25 +130,25 @@ module _ (from to marks : List ℕ) (p : Place) (e : ℕ) (real : e ≡ waiting 
 
 -- ---- a list
 
--- after i edges of es: a walk to the place, with its marks, and the fields from `at` on are the edges that are left
-pub record OnWay (t : Table) (s : ℕ) (bs es : List ℕ) (at i : ℕ) (p : Place) : Type 0 where
-  pub walk : Walk t s (take i es) (p .state)
+-- after i edges of es: a walk to the place, its marks added, and the fields from `at` on are the edges that are left
+pub record OnWay (t : Table) (s : Place) (bs es : List ℕ) (at i : ℕ) (p : Place) : Type 0 where
+  pub walk : Walk t (s .state) (take i es) (p .state)
   pub stands : Stands t p
-  pub marks : p .union ≡ marksOf t (take i es)
+  pub marks : p .union ≡ union (s .union) (marksOf t (take i es))
   pub within : i ≤ length es
   pub rest : steps (left bs at) ≡ some (drop i es)
 
 -- .. of every table and list
-abbrev pub Underway : List ℕ → ℕ → List ℕ → List ℕ → List ℕ → ℕ → ℕ → Place → Type 0
+abbrev pub Underway : List ℕ → Place → List ℕ → List ℕ → List ℕ → ℕ → ℕ → Place → Type 0
 Underway bs s from to marks at i p =
-    (t : Table) (es : List ℕ) → Lies t from to marks → s < t .states → steps (fields bs) ≡ some es → OnWay t s bs es at i p
+    (t : Table) (es : List ℕ) → Lies t from to marks → Stands t s → steps (fields bs) ≡ some es → OnWay t s bs es at i p
 
-pub set-out : (bs : List ℕ) (s : ℕ) (from to marks : List ℕ) → Underway bs s from to marks 0 0 (record { state = s; union = 0; waits = false })
-set-out bs s from to marks t es L l e =
+pub set-out : (bs : List ℕ) (s : Place) (from to marks : List ℕ) → Underway bs s from to marks 0 0 s
+set-out bs s from to marks t es L S e =
     record {
       walk = refl;
-      stands = record { state = l; waits = λ q. absurd (false≢true q) };
-      marks = refl;
+      stands = S;
+      marks = sym (union-none (s .union));
       within = zero-le;
       rest = ap steps (left-all bs) ∙ e;
     }
@@ -131,10 +159,10 @@ drop-next es i x rest e =
     let f : getD es i 0 ∷ drop (suc i) es ≡ x ∷ rest = sym (drop-cons es i 0 l) ∙ e in
     (l, (cc, ap (λ (k : ℕ). drop k es) (add-one i) ∙ (let g : drop (suc i) es ≡ rest = cc in g)))
 
-module _ (bs : List ℕ) (s : ℕ) (from to marks : List ℕ) (at i : ℕ) (p : Place) (U : Underway bs s from to marks at i p) (l : at ≤ length bs) (end : ℕ)
+module _ (bs : List ℕ) (s : Place) (from to marks : List ℕ) (at i : ℕ) (p : Place) (U : Underway bs s from to marks at i p) (l : at ≤ length bs) (end : ℕ)
     (f : FirstAt bs at comma end) where
   -- the field there is the next edge
-  module _ (t : Table) (es : List ℕ) (L : Lies t from to marks) (b : s < t .states) (e : steps (fields bs) ≡ some es) where
+  module _ (t : Table) (es : List ℕ) (L : Lies t from to marks) (b : Stands t s) (e : steps (fields bs) ≡ some es) where
     here : Stepped (part at end bs) (left bs (end + 1)) (drop i es)
     here = stepped (part at end bs) (left bs (end + 1)) (drop i es) (sym (ap steps (left-cut bs at end l f)) ∙ U t es L b e .rest)
 
@@ -168,32 +196,33 @@ module _ (bs : List ℕ) (s : ℕ) (from to marks : List ℕ) (at i : ℕ) (p : 
         let g = G t L (O .stands) in
         let longer : take (i + 1) es ≡ take i es ++ (x ∷ []) = ap (λ (k : ℕ). take k es) (add-one i) ∙ take-suc es i 0 (n .0) ∙ ap (λ (d : ℕ). take i es ++ (d ∷ [])) same in
         record {
-          walk = rw longer (walk-snoc t s (take i es) (p .state) x (q .state) (O .walk) (g .step));
+          walk = rw longer (walk-snoc t (s .state) (take i es) (p .state) x (q .state) (O .walk) (g .step));
           stands = g .stands;
           marks =
-              g .marks ∙ ap (λ (m : ℕ). union m (borne t x)) (O .marks)
-              ∙ sym (ap (marksOf t) longer ∙ marks-append t (take i es) (x ∷ []) ∙ ap (union (marksOf t (take i es))) (union-none (borne t x)));
+              g .marks ∙ ap (λ (m : ℕ). union m (borne t x)) (O .marks) ∙ union-assoc (s .union) (marksOf t (take i es)) (borne t x)
+              ∙ sym (ap (λ (l : List ℕ). union (s .union) (marksOf t l)) longer
+              ∙ ap (union (s .union)) (marks-append t (take i es) (x ∷ []) ∙ ap (union (marksOf t (take i es))) (union-none (borne t x))));
           within = omega (arith, n .0);
           rest = here t es L b e .rest ∙ ap some (sym (n .1 .1));
         }
 
-pub arrived : (bs : List ℕ) (s : ℕ) (from to marks : List ℕ) (at i : ℕ) (p : Place) → Underway bs s from to marks at i p → length bs < at
-    → WalkSays (steps (fields bs)) s from to marks (walked.Through (p .state) (p .union) i)
+pub arrived : (bs : List ℕ) (s : Place) (from to marks : List ℕ) (at i : ℕ) (p : Place) → Underway bs s from to marks at i p → length bs < at
+    → WalkSays (steps (fields bs)) s from to marks (walked.Through p i)
 arrived bs s from to marks at i p U l t es L b e =
     let O = U t es L b e in
     let none : drop i es ≡ [] = no-steps (drop i es) (sym (ap steps (left-none bs at l)) ∙ O .rest) in
     let all : i ≡ length es = omega (arith, ap length none, length-drop i es, O .within) in
     let whole : take i es ≡ es = take-all i es (omega arith) in
     record {
-      walk = subst (λ (k : List ℕ). Walk t s k (p .state)) whole (O .walk);
-      below = O .stands .state;
-      marks = O .marks ∙ ap (marksOf t) whole;
+      walk = subst (λ (k : List ℕ). Walk t (s .state) k (p .state)) whole (O .walk);
+      stands = O .stands;
+      marks = O .marks ∙ ap (λ (k : List ℕ). union (s .union) (marksOf t k)) whole;
       counted = all;
     }
 
 -- a list without edges
-pub no-edges : (s : ℕ) (from to marks es : List ℕ) → es ≡ [] → (t : Table) → s < t .states → Through t s es s 0 0
-no-edges s from to marks es e t l = rw e (record { walk = refl; below = l; marks = refl; counted = refl })
+pub no-edges : (s : Place) (es : List ℕ) → es ≡ [] → (t : Table) → Stands t s → Through t s es s 0
+no-edges s es e t S = rw e (record { walk = refl; stands = S; marks = sym (union-none (s .union)); counted = refl })
 
 -- a waiting edge, as one of a list
 pub go-waits : (from to marks : List ℕ) (p : Place) (e : ℕ) (r : Went) → e ≡ waiting → WaitSays from p r → GoSays from to marks p e r

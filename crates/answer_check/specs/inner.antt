@@ -54,20 +54,28 @@ WaitSays from p r = (t : Table) → Lies t from (t .to) (t .marks) → Stands t 
 abbrev pub GoSays : List ℕ → List ℕ → List ℕ → Place → ℕ → Went → Type 0
 GoSays from to marks p e r = (t : Table) → Lies t from to marks → Stands t p → WentSays t p e r
 
--- the whole list walked, with the union of its marks; or where it breaks
-pub record Through (t : Table) (s : ℕ) (es : List ℕ) (state union count : ℕ) : Type 0 where
-  pub walk : Walk t s es state
-  pub below : state < t .states
-  pub marks : union ≡ marksOf t es
+-- where a walk from a state begins
+abbrev pub outset : ℕ → Place
+outset s = record { state = s; union = 0; waits = false }
+
+-- the same place, and no marks counted so far
+abbrev pub afresh : Place → Place
+afresh p = record { state = p .state; union = 0; waits = p .waits }
+
+-- the whole list walked from a place to another, its marks added; or where it breaks
+pub record Through (t : Table) (p : Place) (es : List ℕ) (q : Place) (count : ℕ) : Type 0 where
+  pub walk : Walk t (p .state) es (q .state)
+  pub stands : Stands t q
+  pub marks : q .union ≡ union (p .union) (marksOf t es)
   pub counted : count ≡ length es
 
-abbrev pub WalkedSays : Table → ℕ → List ℕ → Walked → Type 0
-WalkedSays t s es (walked.Through state union count) = Through t s es state union count
-WalkedSays t s es (walked.Broken i) = Breaks t s es i
+abbrev pub WalkedSays : Table → Place → List ℕ → Walked → Type 0
+WalkedSays t p es (walked.Through q count) = Through t p es q count
+WalkedSays t p es (walked.Broken i) = Breaks t (p .state) es i
 
 -- of every table with these lists, if the bytes are a list of edges
-abbrev pub WalkSays : Option (List ℕ) → ℕ → List ℕ → List ℕ → List ℕ → Walked → Type 0
-WalkSays said s from to marks r = (t : Table) (es : List ℕ) → Lies t from to marks → s < t .states → said ≡ some es → WalkedSays t s es r
+abbrev pub WalkSays : Option (List ℕ) → Place → List ℕ → List ℕ → List ℕ → Walked → Type 0
+WalkSays said p from to marks r = (t : Table) (es : List ℕ) → Lies t from to marks → Stands t p → said ≡ some es → WalkedSays t p es r
 
 -- a run that a text names, on a table
 pub record Named : Type 0 where
@@ -76,9 +84,9 @@ pub record Named : Type 0 where
   pub cycle : List ℕ
 
 -- its prefix ends at the knot
-pub record KnotSays (g : Named) (knot : ℕ) : Type 0 where
-  pub leads : Walk (g .table) (g .table .start) (g .prefix) knot
-  pub below : knot < g .table .states
+pub record KnotSays (g : Named) (knot : Place) : Type 0 where
+  pub leads : Walk (g .table) (g .table .start) (g .prefix) (knot .state)
+  pub stands : Stands (g .table) knot
 
 -- a lasso with the union of its cycle's marks; or its first fault
 pub record Closes (t : Table) (prefix cycle : List ℕ) (union : ℕ) : Type 0 where

@@ -1,12 +1,14 @@
 // A lasso named by the bytes of its two lists: closed, with the marks on its cycle, or its first fault. Relies on `walk`.
 use crate::Fault;
+use crate::walk::Place;
 use crate::walk::Walked;
+use crate::walk::set_out;
 use crate::walk::walk;
 ghost use mathlib.Core.Path.{_≡_};
 ghost use mathlib.Core.Option.{some};
 ghost use Rattle.table.specs.inner.Looks.{Even};
 ghost use Rattle.answer_form.specs.Given.{listGiven};
-ghost use Rattle.answer_check.specs.inner.{Lies, Through, Named, KnotSays, TurnedSays};
+ghost use Rattle.answer_check.specs.inner.{Lies, afresh, Through, Named, KnotSays, TurnedSays};
 
 // A closed cycle with the marks on it, or the first fault and its position.
 pub(crate) enum Turned {
@@ -15,8 +17,8 @@ pub(crate) enum Turned {
 }
 
 // What the cycle is, by where its walk from the knot arrives.
-fn closed(knot: u32, state: u32, union: u32, count: usize) -> Turned
-    ensures { λ r. ⌜ ((g : Named) → KnotSays g knot → Through (g .table) knot (g .cycle) state union count → TurnedSays g r) ⌝ }
+fn closed(knot: Place, end: Place, count: usize) -> Turned
+    ensures { λ r. ⌜ ((g : Named) → KnotSays g knot → Through (g .table) (afresh knot) (g .cycle) end count → TurnedSays g r) ⌝ }
 {
     if count == 0 {
         return Turned::Faulty {
@@ -24,30 +26,31 @@ fn closed(knot: u32, state: u32, union: u32, count: usize) -> Turned
             position: 0,
         };
     }
-    if state != knot {
+    if end.state != knot.state {
         return Turned::Faulty {
             fault: Fault::Cycle,
             position: count,
         };
     }
-    Turned::Closed { union }
+    Turned::Closed { union: end.union }
 }
 
-// The cycle, walked from the knot.
-fn turn(cycle: &[u8], knot: u32, from: &[u32], to: &[u32], marks: &[u32]) -> Turned
+// The cycle, walked from the knot; marks before it do not count.
+fn turn(cycle: &[u8], knot: Place, from: &[u32], to: &[u32], marks: &[u32]) -> Turned
     requires { ⌜ Even (now from) (now to) (now marks) ⌝ }
     ensures { λ r. ⌜ ((g : Named) → Lies (g .table) (now (from .entry)) (now (to .entry)) (now (marks .entry)) → KnotSays g knot → listGiven (now (cycle .entry)) ≡ some (g .cycle) → TurnedSays g r) ⌝ }
 {
-    match walk(cycle, knot, from, to, marks) {
+    let begin = Place {
+        state: knot.state,
+        union: 0,
+        waits: knot.waits,
+    };
+    match walk(cycle, begin, from, to, marks) {
         Walked::Broken { position } => Turned::Faulty {
             fault: Fault::Cycle,
             position,
         },
-        Walked::Through {
-            state,
-            union,
-            count,
-        } => closed(knot, state, union, count),
+        Walked::Through { place, count } => closed(knot, place, count),
     }
 }
 
@@ -63,15 +66,11 @@ pub(crate) fn check_lasso(
     requires { ⌜ Even (now from) (now to) (now marks) ⌝ }
     ensures { λ r. ⌜ ((g : Named) → Lies (g .table) (now (from .entry)) (now (to .entry)) (now (marks .entry)) → g .table .start ≡ start → listGiven (now (prefix .entry)) ≡ some (g .prefix) → listGiven (now (cycle .entry)) ≡ some (g .cycle) → TurnedSays g r) ⌝ }
 {
-    match walk(prefix, start, from, to, marks) {
+    match walk(prefix, set_out(start), from, to, marks) {
         Walked::Broken { position } => Turned::Faulty {
             fault: Fault::Prefix,
             position,
         },
-        Walked::Through {
-            state,
-            union: _,
-            count: _,
-        } => turn(cycle, state, from, to, marks),
+        Walked::Through { place, count: _ } => turn(cycle, place, from, to, marks),
     }
 }

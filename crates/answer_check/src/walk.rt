@@ -10,7 +10,7 @@ ghost use Rattle.table.specs.Table.{waiting};
 ghost use Rattle.table.specs.inner.Looks.{Even};
 ghost use Rattle.job_text.specs.Text.{fields};
 ghost use Rattle.answer_form.specs.Given.{steps, listGiven};
-ghost use Rattle.answer_check.specs.inner.{LeftBy, WaitSays, GoSays, WalkSays};
+ghost use Rattle.answer_check.specs.inner.{outset, LeftBy, WaitSays, GoSays, WalkSays};
 
 const COMMA: u8 = 44;
 
@@ -27,16 +27,21 @@ pub(crate) enum Went {
     Stuck,
 }
 
-// The whole list walked, with the state at its end, the marks on it and the number of its edges; or the position at which it breaks.
+// The whole list walked, with the place at its end and the number of its edges; or the position at which it breaks.
 pub(crate) enum Walked {
-    Through {
-        state: u32,
-        union: u32,
-        count: usize,
-    },
-    Broken {
-        position: usize,
-    },
+    Through { place: Place, count: usize },
+    Broken { position: usize },
+}
+
+// Where a walk from a state begins.
+pub(crate) fn set_out(state: u32) -> Place
+    ensures { λ r. ⌜ r ≡ outset state ⌝ }
+{
+    Place {
+        state,
+        union: 0,
+        waits: false,
+    }
 }
 
 // Whether some edge leaves the state.
@@ -107,16 +112,12 @@ fn go(place: Place, edge: u32, from: &[u32], to: &[u32], marks: &[u32]) -> Went
     take_edge(place, edge, from, to, marks)
 }
 
-// A list of at least one edge, walked from a state.
-fn walk_edges(list: &[u8], begin: u32, from: &[u32], to: &[u32], marks: &[u32]) -> Walked
+// A list of at least one edge, walked from a place.
+fn walk_edges(list: &[u8], begin: Place, from: &[u32], to: &[u32], marks: &[u32]) -> Walked
     requires { ⌜ Even (now from) (now to) (now marks) ⌝ }
     ensures { λ r. ⌜ WalkSays (steps (fields (now (list .entry)))) begin (now (from .entry)) (now (to .entry)) (now (marks .entry)) r ⌝ }
 {
-    let mut place = Place {
-        state: begin,
-        union: 0,
-        waits: false,
-    };
+    let mut place = begin;
     let mut at = 0;
     let mut position = 0;
     while at <= list.len() {
@@ -133,21 +134,19 @@ fn walk_edges(list: &[u8], begin: u32, from: &[u32], to: &[u32], marks: &[u32]) 
         position += 1;
     }
     Walked::Through {
-        state: place.state,
-        union: place.union,
+        place,
         count: position,
     }
 }
 
-// A list, walked from a state.
-pub(crate) fn walk(list: &[u8], begin: u32, from: &[u32], to: &[u32], marks: &[u32]) -> Walked
+// A list, walked from a place.
+pub(crate) fn walk(list: &[u8], begin: Place, from: &[u32], to: &[u32], marks: &[u32]) -> Walked
     requires { ⌜ Even (now from) (now to) (now marks) ⌝ }
     ensures { λ r. ⌜ WalkSays (listGiven (now (list .entry))) begin (now (from .entry)) (now (to .entry)) (now (marks .entry)) r ⌝ }
 {
     if alike(list, b"-") {
         return Walked::Through {
-            state: begin,
-            union: 0,
+            place: begin,
             count: 0,
         };
     }

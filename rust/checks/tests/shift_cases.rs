@@ -83,7 +83,7 @@ fn depths() {
     let nested: Vec<Edge> = (0..16).map(|i| (0, 0, 1 << (2 * i) | if i < 15 { 8 << (2 * i) } else { 0 })).collect();
     let stored = [
         (streett("0>0{0}", 1), 1),
-        (streett("0>1{0}, 1>0{}", 1), 1), // only lone states are left
+        (streett("0>1{0}, 1>0{}", 1), 1),            // only lone states are left
         (streett("0>1{0}, 1>2{0}, 2>0{0,2}", 2), 1), // two bad pairs, erased in one step
         (streett("0>0{2}, 0>1{0,3}, 1>0{}", 2), 2),
         (streett("0>0{0}, 0>1{}, 1>1{2}, 1>2{0,3}, 2>1{}", 2), 2), // the deepest part is not in the start's component

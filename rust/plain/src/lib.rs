@@ -43,10 +43,19 @@ pub struct Table<'a> {
 /// The answer. A run's edges stand in the room: the prefix, then the cycle, then zeros.
 #[derive(Clone, Copy, Debug, PartialEq, Eq)]
 pub enum Verdict {
-    Run { prefix: u32, cycle: u32, pair: u32 },
+    Run {
+        prefix: u32,
+        cycle: u32,
+        pair: u32,
+    },
     /// How deep the erasing went, 0 for kinds other than Streett.
-    Empty { depth: u32 },
-    Refused { number: u32, place: u32 },
+    Empty {
+        depth: u32,
+    },
+    Refused {
+        number: u32,
+        place: u32,
+    },
 }
 
 /// Judges a table. What room and scratch hold before does not matter.

@@ -11,8 +11,8 @@ walk-requires c κs = c .before .before .before .before .pre
 enum-known-position : tie.Need-enum-known-position
 enum-known-position c = search needs
 
-enum-known-state : tie.Need-enum-known-state
-enum-known-state c = search needs
+enum-known-place : tie.Need-enum-known-place
+enum-known-place c = search needs
 
 closed-requires : tie.Need-closed-requires
 closed-requires c κs = search needs
@@ -27,9 +27,9 @@ returns-2 : tie.Need-returns-2
 returns-2 c =
     let a = c .before .before .before .before .before .before .before .before .before .args in
     λ g L K e. c .closed .ensures g K
-    (walked-round g (a .knot) (now (a .cycle)) (now (a .from)) (now (a .to)) (now (a .marks)) (c .before .before .before .before .walk .result) _ (c .before .before .before .before .walk .ensures) (c .before .before .state .given .1) L K e)
+    (walked-round g (a .knot) (now (a .cycle)) (now (a .from)) (now (a .to)) (now (a .marks)) (c .before .before .before .before .walk .result) _ (c .before .before .before .before .walk .ensures) (c .before .before .place .given .1) L K e)
 
 pub turn-spec : {M : Type 1} → statement M
 turn-spec =
     tie.close
-    (tie.spec walk-requires enum-known-position enum-known-state closed-requires returns returns-2)
+    (tie.spec walk-requires enum-known-position enum-known-place closed-requires returns returns-2)

@@ -20,7 +20,7 @@ alike-requires c κs = search needs
 returns : tie.Need-returns
 returns c =
     let a = c .before .before .before .before .before .before .before .args in
-    λ t es L b e. no-edges (a .begin) (now (a .from)) (now (a .to)) (now (a .marks)) es (list-none (now (a .list)) es (sym (c .before .alike .ensures) ∙ c .if1 .taken) e) t b
+    λ t es L b e. no-edges (a .begin) es (list-none (now (a .list)) es (sym (c .before .alike .ensures) ∙ c .if1 .taken) e) t b
 
 walk-edges-requires : tie.Need-walk-edges-requires
 walk-edges-requires c κs = c .before .before .before .before .before .before .before .pre

@@ -14,10 +14,10 @@ use Rattle.answer_check.proofs.walk.walk_edges.Statement.{statement}
 use Rattle.answer_check.proofs.walk.walk_edges.Tie as tie
 
 abbrev Inv-loop : tie.InvT-loop
-Inv-loop list begin from to marks place₀ at₀ position₀ place at position = Underway list begin from to marks at position place × (position ≤ at)
+Inv-loop list from to marks place₀ at₀ position₀ place at position = Underway list place₀ from to marks at position place × (position ≤ at)
 
 abbrev μ-loop : tie.MeasureT-loop
-μ-loop list begin from to marks place₀ at₀ position₀ place at position = length list + 1 - at
+μ-loop list from to marks place₀ at₀ position₀ place at position = length list + 1 - at
 
 loop-holds : tie.Need-loop-holds Inv-loop μ-loop
 loop-holds c =

@@ -17,7 +17,7 @@ use Rattle.table.specs.Refusal.{Proper}
 use Rattle.table.specs.Row.{part}
 use Rattle.table.proofs.Walks.{walk-snoc, marks-append, proper-apart, stop-step}
 use Rattle.job_text.specs.Text.{comma, fields, FirstAt}
-use Rattle.job_text.proofs.Needs.{left, left-cut}
+use Rattle.job_values.proofs.Cut.{left, left-cut}
 use Rattle.answer_check.specs.declared.walk.Place.{Place}
 use Rattle.answer_check.specs.declared.walk.Went.{Went}
 use Rattle.answer_check.specs.declared.walk.Went.the-variants as went

@@ -94,7 +94,7 @@ module _ (n start : ℕ) (from to marks : List ℕ) (c : Acceptance) (needs text
 same-refusal : {number place x p : ℕ} → Refused number place ≡ Refused x p → checked.Refused number place ≡ checked.Refused x p
 same-refusal {number} {place} {x} {p} q = let a : number ≡ x = cc in let b : place ≡ p = cc in rw (a, b)
 
-refused-by : (o : Outcome) (r : Reading) (answer : List ℕ) (number place : ℕ) → r ≡ readingOf o → r .finding ≡ Refused number place → ByJob o answer (checked.Refused number place)
+refused-by : (o : Outcome) (r : Reading) (answer : List ℕ) (number place : ℕ) → {column : ℕ} → r ≡ readingOf o column → r .finding ≡ Refused number place → ByJob o answer (checked.Refused number place)
 refused-by (job j) r answer number place e f = absurd (unlike (sym f ∙ ap (λ (x : Reading). x .finding) e))
 refused-by (fault x p) r answer number place e f = same-refusal (sym f ∙ ap (λ (x : Reading). x .finding) e)
 
@@ -107,14 +107,14 @@ module _ (r : Reading) (from to marks answer : List ℕ) (x : Checked) where
   abbrev pub Said : Type 0
   Said = ByCause (refusal handed (r .condition) (r .needs)) handed (r .condition) (r .needs) answer x
 
-  module _ (j : Job) (e : r ≡ readingOf (job j)) (f : from ≡ padTo mostJobEdges (map (λ (e : Edge). e .from) (j .edges)))
+  module _ (j : Job) {column : ℕ} (e : r ≡ readingOf (job j) column) (f : from ≡ padTo mostJobEdges (map (λ (e : Edge). e .from) (j .edges)))
       (g : to ≡ padTo mostJobEdges (map (λ (e : Edge). e .to) (j .edges))) (h : marks ≡ padTo mostJobEdges (map (λ (e : Edge). e .marks) (j .edges))) where
     on-job : Said → ByJob (job j) answer x
     on-job S =
         rw (part-is (λ (e : Edge). e .from) (j .edges), part-is (λ (e : Edge). e .to) (j .edges), part-is (λ (e : Edge). e .marks) (j .edges)) at
         (rw (e, f, g, h) at S)
 
-  checked-by : (o : Outcome) (b b' b'' : List ℕ) → r ≡ readingOf o → r .finding ≡ Sound → from ≡ cellsOf (λ e. e .from) o b
+  checked-by : (o : Outcome) (b b' b'' : List ℕ) → {column : ℕ} → r ≡ readingOf o column → r .finding ≡ Sound → from ≡ cellsOf (λ e. e .from) o b
       → to ≡ cellsOf (λ e. e .to) o b' → marks ≡ cellsOf (λ e. e .marks) o b'' → Said → ByJob o answer x
   checked-by (fault number place) b b' b'' e s f g h S = absurd (unlike (sym (ap (λ (y : Reading). y .finding) e) ∙ s))
   checked-by (job j) b b' b'' e s f g h S = on-job j e f g h S

@@ -2,9 +2,9 @@
 // from states once; from then on the walk waits there. Relies on `answer_form` for the edges and on `marks` for their union.
 use answer_form::WAITING;
 use answer_form::read_step;
-use job_text::part::alike;
-use job_text::part::find;
-use job_text::value::Number;
+use job_values::number::Number;
+use job_values::part::alike;
+use job_values::part::find;
 ghost use mathlib.Core.Path.{_≡_};
 ghost use Rattle.table.specs.Table.{waiting};
 ghost use Rattle.table.specs.inner.Looks.{Even};

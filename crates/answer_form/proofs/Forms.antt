@@ -13,11 +13,11 @@ use Rattle.table.specs.Row.{part}
 use Rattle.table.specs.Table.{waiting}
 use Rattle.job_text.specs.Text.{newline, comma, fields, same, ahead, FirstAt}
 use Rattle.job_text.specs.Value.{andThen, dash, number}
-use Rattle.job_text.specs.declared.value.Number.{Number}
-use Rattle.job_text.specs.declared.value.Number.the-variants as num
-use Rattle.job_text.specs.Given.{numberGiven}
+use Rattle.job_values.specs.declared.number.Number.{Number}
+use Rattle.job_values.specs.declared.number.Number.the-variants as num
+use Rattle.job_values.specs.Given.{numberGiven}
 use Rattle.job_text.proofs.Text.{same-length}
-use Rattle.job_text.proofs.Needs.{left, left-cut}
+use Rattle.job_values.proofs.Cut.{left, left-cut}
 use Rattle.answer_text.specs.Printed.{stop}
 use Rattle.answer_form.specs.declared.Value.{Value}
 use Rattle.answer_form.specs.declared.RunValues.{RunValues}

@@ -1,16 +1,16 @@
 // The reader of answer texts, the inverse of the printer: whether a text is one that an answer of ours prints, and where a run's lists stand in it. Nothing is
-// stored. Relies on `job_text` for numbers and for searching and comparing bytes. Which texts are ours is in specs/Form.antt, what the reader gives in
+// stored. Relies on `job_values` for numbers and for searching and comparing bytes. Which texts are ours is in specs/Form.antt, what the reader gives in
 // specs/Given.antt. It serves `answer_check`.
-use job_text::part::alike;
-use job_text::part::find;
-use job_text::value::Number;
-use job_text::value::read_number;
+use job_values::number::Number;
+use job_values::number::read_number;
+use job_values::part::alike;
+use job_values::part::find;
 ghost use mathlib.Core.Path.{_≡_};
 ghost use mathlib.Core.Bool.{false};
 ghost use Prim.Native.Nat.{_≤_};
 ghost use lib.ListN.{length, drop};
 ghost use Rattle.job_text.specs.Value.{number};
-ghost use Rattle.job_text.specs.Given.{numberGiven};
+ghost use Rattle.job_values.specs.Given.{numberGiven};
 ghost use Rattle.job_text.specs.Text.{fields};
 ghost use Rattle.answer_form.specs.Given.{startsWith, ValueAt, step, steps, listGiven, isSome, pairGiven, ValuesAt, RunForm, whereGiven, refusedGiven, emptyGiven, noRun, FormOf};
 

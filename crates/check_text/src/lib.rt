@@ -3,8 +3,8 @@
 use answer_check::Checked;
 use answer_check::Fault;
 use answer_check::check_answer;
-use job_text::part::alike;
-use job_text::part::find;
+use job_values::part::alike;
+use job_values::part::find;
 use puts::clear;
 use puts::put_held;
 use puts::put_word;

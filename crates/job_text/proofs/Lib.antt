@@ -1,7 +1,5 @@
 pub mod Pad
 pub mod Text
-pub mod Values
-pub mod Needs
 pub mod Lines
 pub mod Heads
 pub mod Bodies

@@ -1,19 +1,17 @@
 -- What the public contracts settle: any two results that they allow for one input are the same.
 -- Assumes nothing.
-use mathlib.Core.Path.{_≡_, refl, sym, ap, _∙_}
-use mathlib.Core.List.{List}
+use mathlib.Core.Path.{_≡_, sym, ap, _∙_}
+use mathlib.Core.Bool.{Bool, true, false}
+use mathlib.Core.List.{List, [], _∷_, _++_}
 use Prim.Native.Nat.{ℕ}
-use native.Mathlib.Omega.{arith}
+use lib.Dec.{ltb}
+use lib.ListN.{length}
+use Rattle.job_values.specs.Column.{RightLine}
+use Rattle.job_values.proofs.Columns.{first-wrong-once}
 use Rattle.job_text.specs.declared.reader.Reading.{Reading}
-use mathlib.Core.Option.{some, none}
-use Rattle.job_text.specs.declared.value.Number.{Number}
-use Rattle.job_text.specs.declared.value.Number.the-variants as number
-use Rattle.job_text.specs.Given.{numberGiven}
-use Rattle.job_text.specs.Reading.{Read}
-use Rattle.marks.proofs.Unique.{OneResult}
-use Rattle.job_text.proofs.part.find.Reads as find
-use Rattle.job_text.proofs.part.alike.Reads as alike
-use Rattle.job_text.proofs.value.read_number.Reads as read-number
+use Rattle.job_text.specs.Text.{newline, Lines, lines}
+use Rattle.job_text.specs.Job.{mostBytes, Cause, absent, unformed, large, Found, found, refused, jobLines, readJob, ColumnOf, ColumnIn, ColumnIf, Column}
+use Rattle.job_text.specs.Reading.{readingOf, Read}
 
 -- ---- one result for one input
 
@@ -23,27 +21,26 @@ pub record SameReading (from to marks from' to' marks' : List ℕ) (r s : Readin
   pub tos : to ≡ to'
   pub sets : marks ≡ marks'
 
+-- a text has one column
+by-cause : (why : Cause) (c d : ℕ) → ColumnOf why c → ColumnOf why d → c ≡ d
+by-cause absent c d p q = p ∙ sym q
+by-cause (unformed key right v) c d p q = first-wrong-once (RightLine key right) (key ++ (v ++ (newline ∷ []))) c d p q
+by-cause (large key) c d p q = p ∙ sym q
+
+by-found : {A : Type 0} (f : Found A) (c d : ℕ) → ColumnIn f c → ColumnIn f d → c ≡ d
+by-found (found a place ls) c d p q = p ∙ sym q
+by-found (refused why place) c d p q = by-cause why c d p q
+
+by-length : (long : Bool) (ls : Lines) (c d : ℕ) → ColumnIf long ls c → ColumnIf long ls d → c ≡ d
+by-length true ls c d p q = p ∙ sym q
+by-length false ls c d p q = by-found (jobLines 1 ls) c d p q
+
+pub one-column : (text : List ℕ) (c d : ℕ) → Column text c → Column text d → c ≡ d
+one-column text c d p q = by-length (ltb mostBytes (length text)) (lines text) c d p q
+
 -- a text gives one reading and one content of the tables
 pub one-reading : (text from to marks f t m f' t' m' : List ℕ) (r s : Reading) → Read text from to marks f t m r → Read text from to marks f' t' m' s
     → SameReading f t m f' t' m' r s
 one-reading text from to marks f t m f' t' m' r s a b =
-    record { reading = a .reading ∙ sym (b .reading); froms = a .froms ∙ sym (b .froms); tos = a .tos ∙ sym (b .tos); sets = a .sets ∙ sym (b .sets) }
-
--- a byte is first found at one place
-pub one-place : OneResult find.Post
-one-place κ a r s e f p q = p .place ∙ sym (q .place)
-
--- two parts are the same bytes, or not
-pub one-likeness : OneResult alike.Post
-one-likeness κ a r s e f p q = p ∙ sym q
-
--- a number is told in one way
-told : (r s : Number) → numberGiven r ≡ numberGiven s → r ≡ s
-told (number.Value a) (number.Value b) e = let q : a ≡ b = cc in ap number.Value q
-told (number.Value a) number.Wrong e = absurd (let z : _≡_ {A = ℕ} 0 1 = cc in omega arith)
-told number.Wrong (number.Value b) e = absurd (let z : _≡_ {A = ℕ} 0 1 = cc in omega arith)
-told number.Wrong number.Wrong e = refl
-
--- bytes are read as one number, or as none
-pub one-number : OneResult read-number.Post
-one-number κ a r s e f p q = told r s (p ∙ sym q)
+    let c = one-column text (r .column) (s .column) (a .column) (b .column) in
+    record { reading = a .reading ∙ ap (readingOf (readJob text)) c ∙ sym (b .reading); froms = a .froms ∙ sym (b .froms); tos = a .tos ∙ sym (b .tos); sets = a .sets ∙ sym (b .sets) }

@@ -22,7 +22,7 @@ part-is f es =
     ap (λ (k : ℕ). take k (padTo mostJobEdges (map f es))) n ∙ take-append-seam (map f es) _
 
 -- the tables are as long as the edges are many
-edges-within : (f : Edge → ℕ) (o : Outcome) {r : Reading} {cells : List ℕ} (before : List ℕ) → r ≡ readingOf o → cells ≡ cellsOf f o before → r .edges ≤ length cells
+edges-within : (f : Edge → ℕ) (o : Outcome) {r : Reading} {cells : List ℕ} (before : List ℕ) → r ≡ readingOf o (r .column) → cells ≡ cellsOf f o before → r .edges ≤ length cells
 edges-within f (job j) before e g =
     omega (arith, ap (λ (x : Reading). x .edges) e, ap length g, length-append (map f (j .edges)) (replicate (mostJobEdges - length (map f (j .edges))) 0), length-map (j .edges) f)
 edges-within f (fault number place) before e g = omega (arith, ap (λ (x : Reading). x .edges) e)

@@ -1,24 +1,13 @@
 -- What the readers' own answers say, in the words of Value.antt and Job.antt: one definition for each answer. Assumes nothing.
-use mathlib.Core.Bool.{false, cond}
+use mathlib.Core.Bool.{true, false, cond}
 use mathlib.Core.Path.{_≡_}
-use mathlib.Core.List.{List, [], _∷_}
-use mathlib.Core.Option.{Option, some, none}
-use Prim.Native.Nat.{ℕ, _+_, _≤_, _<_}
+use mathlib.Core.List.{List, []}
+use Prim.Native.Nat.{ℕ, suc, _+_, _-_, _≤_}
 use lib.ListN.{length, drop}
-use Rattle.job_text.specs.declared.value.Number.{Number}
-use Rattle.job_text.specs.declared.value.Number.the-variants as number
-use Rattle.job_text.specs.declared.value.Kind.{Kind}
-use Rattle.job_text.specs.declared.value.Form.{Form}
-use Rattle.job_text.specs.declared.value.FormWord.{FormWord}
-use Rattle.job_text.specs.declared.value.FormWord.the-variants as formWord
-use Rattle.job_text.specs.declared.value.KindWord.{KindWord}
-use Rattle.job_text.specs.declared.value.KindWord.the-variants as word
-use Rattle.job_text.specs.declared.value.EdgeValue.{EdgeValue}
-use Rattle.job_text.specs.declared.value.EdgeValue.the-variants as edges
-use Rattle.job_text.specs.declared.value.Commas.{Commas}
-use Rattle.job_text.specs.declared.value.Commas.the-variants as commas
-use Rattle.job_text.specs.declared.value.NeedList.{NeedList}
+use Rattle.job_values.specs.declared.value.Kind.{Kind}
+use Rattle.job_values.specs.declared.value.Form.{Form}
 use Rattle.job_text.specs.declared.line.Span.{Span}
+use Rattle.job_text.specs.declared.line.Fault.{Fault}
 use Rattle.job_text.specs.declared.line.NumberLine.{NumberLine}
 use Rattle.job_text.specs.declared.line.NumberLine.the-variants as numberLine
 use Rattle.job_text.specs.declared.line.FormLine.{FormLine}
@@ -31,42 +20,12 @@ use Rattle.job_text.specs.declared.line.Step.{Step}
 use Rattle.job_text.specs.declared.line.Step.the-variants as step
 use Rattle.job_text.specs.declared.line.NeedLine.{NeedLine}
 use Rattle.table.specs.Row.{part}
-use Rattle.job_text.specs.Text.{fields, lines}
-use Rattle.job_text.specs.Value.{Edge, edge, padded}
-use Rattle.job_text.specs.Job.{Keyed, missing, value, keyed, Line, says, fault, Found, found, refused}
+use Rattle.job_values.specs.inner.Field.{Within}
+use Rattle.job_text.specs.Text.{lines}
+use Rattle.job_text.specs.Value.{Edge, padded}
+use Rattle.job_text.specs.Job.{Keyed, missing, value, keyed, Cause, numberOf, ColumnOf, Line, says, fault, Found, found, refused}
 
--- ---- values
-
-abbrev pub numberGiven : Number → Option ℕ
-numberGiven (number.Value n) = some n
-numberGiven number.Wrong = none
-
-abbrev pub formGiven : FormWord → Option Form
-formGiven (formWord.Form f) = some f
-formGiven formWord.Wrong = none
-
-abbrev pub kindGiven : KindWord → Option Kind
-kindGiven (word.Kind k) = some k
-kindGiven word.Wrong = none
-
--- three fields: their ends
-pub record Commas2 (bs : List ℕ) (first second : ℕ) : Type 0 where
-  pub ordered : first < second
-  pub ends : second < length bs
-  pub three : fields bs ≡ part 0 first bs ∷ (part (first + 1) second bs ∷ (part (second + 1) (length bs) bs ∷ []))
-
-abbrev pub CommasAt : List ℕ → Commas → Type 0
-CommasAt bs (commas.Two first second) = Commas2 bs first second
-CommasAt bs commas.Other = edge bs ≡ none
-
-abbrev pub edgeGiven : EdgeValue → Option Edge
-edgeGiven (edges.Edge from to marks) = some (record { from = from; to = to; marks = marks })
-edgeGiven edges.Wrong = none
-
-abbrev pub needsGiven : NeedList → Option (List ℕ)
-needsGiven l = cond (l .formed) (some (l .needs)) none
-
--- ---- lines. `drop next text` is what follows: a text is read from a place on
+-- ---- where a line's value stands. `drop next text` is what follows: a text is read from a place on
 
 -- the value that stands there, and the lines after it
 abbrev pub spanKeyed : List ℕ → Span → Keyed
@@ -75,36 +34,68 @@ spanKeyed text r = cond (r .found) (value (part (r .from) (r .end) text) (lines 
 abbrev pub noSpan : Span
 noSpan = record { found = false; from = 0; end = 0 }
 
+-- the value stands behind the key, up to the newline byte
+pub record Standing (text : List ℕ) (at : ℕ) (key : List ℕ) (r : Span) : Type 0 where
+  pub behind : r .from ≡ at + length key
+  pub within : Within text (r .from) (r .end)
+
 pub record SpanAt (text : List ℕ) (at : ℕ) (key : List ℕ) (r : Span) : Type 0 where
-  pub ordered : r .from ≤ r .end
   pub ends : r .end ≤ length text
   pub is : spanKeyed text r ≡ keyed key (lines (drop at text))
+  pub there : r .found ≡ true → Standing text at key r
 
-abbrev pub numberSays : List ℕ → NumberLine → Line ℕ
-numberSays text (numberLine.Value n next) = says n (lines (drop next text))
-numberSays text (numberLine.Fault number) = fault number
+-- ---- faults
 
-abbrev pub formFound : List ℕ → FormLine → Found Form
-formFound text (formLine.Form f next line) = found f line (lines (drop next text))
-formFound text (formLine.Fault number) = refused number 1
+abbrev pub faultAt : ℕ → ℕ → ℕ → Fault
+faultAt number line column = record { number = number; line = line; column = column }
 
-abbrev pub kindFound : List ℕ → KindLine → Found Kind
-kindFound text (kindLine.Kind k next line) = found k line (lines (drop next text))
-kindFound text (kindLine.Refused number place) = refused number place
+-- the reader's words for what is wrong with a line; the column is one of the text's, or the next
+pub record FaultAs (text : List ℕ) (why : Cause) (place : ℕ) (f : Fault) : Type 0 where
+  pub number : f .number ≡ numberOf why
+  pub line : f .line ≡ place
+  pub column : ColumnOf why (f .column)
+  pub short : f .column ≤ suc (length text)
 
-abbrev pub edgeSays : List ℕ → EdgeLine → Line Edge
-edgeSays text (edgeLine.Edge from to marks next) = says (record { from = from; to = to; marks = marks }) (lines (drop next text))
-edgeSays text (edgeLine.Fault number) = fault number
+-- the line is at fault, and so it is said
+pub record LineBlamed {A : Type 0} (text : List ℕ) (said : Line A) (place : ℕ) (f : Fault) : Type 0 where
+  pub why : Cause
+  pub is : said ≡ fault why
+  pub worded : FaultAs text why place f
 
-abbrev pub stepSays : {A : Type 0} → A → List ℕ → Step → Line A
-stepSays a text (step.Next next) = says a (lines (drop next text))
-stepSays a text (step.Fault number) = fault number
+-- the first faulty one of some lines, and so it is said
+pub record Blamed {A : Type 0} (text : List ℕ) (said : Found A) (f : Fault) : Type 0 where
+  pub why : Cause
+  pub place : ℕ
+  pub is : said ≡ refused why place
+  pub worded : FaultAs text why place f
 
-abbrev pub endSays : List ℕ → Step → Line (Unit {0})
-endSays text s = stepSays tt text s
+-- ---- lines
 
-abbrev pub needSays : List ℕ → NeedLine → Line (List ℕ)
-needSays text r = stepSays (r .needs) text (r .step)
+abbrev pub NumberAt : List ℕ → Line ℕ → ℕ → NumberLine → Type 0
+NumberAt text said place (numberLine.Value n next) = said ≡ says n (lines (drop next text))
+NumberAt text said place (numberLine.Fault f) = LineBlamed text said place f
 
-abbrev pub needFault : ℕ → NeedLine
-needFault number = record { step = step.Fault number; needs = padded [] }
+abbrev pub FormAt : List ℕ → Found Form → FormLine → Type 0
+FormAt text said (formLine.Form f next line) = said ≡ found f line (lines (drop next text))
+FormAt text said (formLine.Fault f) = Blamed text said f
+
+abbrev pub KindAt : List ℕ → Found Kind → KindLine → Type 0
+KindAt text said (kindLine.Kind k next line) = said ≡ found k line (lines (drop next text))
+KindAt text said (kindLine.Fault f) = Blamed text said f
+
+abbrev pub EdgeAt : List ℕ → Line Edge → ℕ → EdgeLine → Type 0
+EdgeAt text said place (edgeLine.Edge from to marks next) = said ≡ says (record { from = from; to = to; marks = marks }) (lines (drop next text))
+EdgeAt text said place (edgeLine.Fault f) = LineBlamed text said place f
+
+abbrev pub StepAt : {A : Type 0} → A → List ℕ → Line A → ℕ → Step → Type 0
+StepAt a text said place (step.Next next) = said ≡ says a (lines (drop next text))
+StepAt a text said place (step.Fault f) = LineBlamed text said place f
+
+abbrev pub EndAt : List ℕ → Line (Unit {0}) → ℕ → Step → Type 0
+EndAt text said place s = StepAt tt text said place s
+
+abbrev pub NeedAt : List ℕ → Line (List ℕ) → ℕ → NeedLine → Type 0
+NeedAt text said place r = StepAt (r .needs) text said place (r .step)
+
+abbrev pub needFault : Fault → NeedLine
+needFault f = record { step = step.Fault f; needs = padded [] }

@@ -1,16 +1,18 @@
 -- Which texts are jobs, what each says, and where the others are at fault (docs/RULES.md, "The job text and the printed answer").
 -- Assumes nothing.
-use mathlib.Core.Bool.{Bool, false, cond}
-use mathlib.Core.List.{List, [], _∷_}
+use mathlib.Core.Bool.{Bool, true, false, cond}
+use mathlib.Core.List.{List, [], _∷_, _++_}
+use mathlib.Core.Path.{_≡_}
 use mathlib.Core.Option.{Option, some, none}
 use Prim.Native.Nat.{ℕ, zero, suc, _+_}
 use lib.Dec.{ltb}
 use lib.ListN.{length, drop}
 use Rattle.table.specs.declared.Acceptance.{Acceptance}
-use Rattle.job_text.specs.declared.value.Kind.{Kind}
-use Rattle.job_text.specs.declared.value.Form.{Form}
-use Rattle.job_text.specs.declared.value.Form.the-variants.{One}
-use Rattle.job_text.specs.Text.{Lines, done, broken, line, lines, begins}
+use Rattle.job_values.specs.declared.value.Kind.{Kind}
+use Rattle.job_values.specs.declared.value.Form.{Form}
+use Rattle.job_values.specs.declared.value.Form.the-variants.{One}
+use Rattle.job_values.specs.Column.{given, RightLine, FirstWrong}
+use Rattle.job_text.specs.Text.{newline, Lines, done, broken, line, lines, begins}
 use Rattle.job_text.specs.Value.{number, textForm, kind, usualKind, needs, Edge, edge, end, condition, mostCount}
 
 -- ---- the limits: "Program limits (23): 256 states, 512 edges, count above what row 4 allows."
@@ -43,29 +45,46 @@ keyed key done = missing
 keyed key broken = missing
 keyed key (line l ls) = cond (begins key l) (value (drop (length key) l) ls) missing
 
--- what a line says, and the lines after it; or the number of its fault
+-- what is wrong with a line
+pub data Cause : Type 0 where
+  -- 21: it has the wrong key, is missing, or follows the end
+  absent : Cause
+  -- 22: behind the key stands a value that is not right
+  unformed : List ℕ → (List ℕ → Bool) → List ℕ → Cause
+  -- 23: behind the key stands a number that is too large
+  large : List ℕ → Cause
+
+abbrev pub numberOf : Cause → ℕ
+numberOf absent = 21
+numberOf (unformed key right v) = 22
+numberOf (large key) = 23
+
+-- what a line says, and the lines after it; or what is wrong with it
 pub data Line (A : Type 0) : Type 0 where
   says : A → Lines → Line A
-  fault : ℕ → Line A
+  fault : Cause → Line A
 
-abbrev pub limited : {A : Type 0} → (A → Bool) → Option A → Lines → Line A
-limited over none ls = fault 22
-limited over (some a) ls = cond (over a) (fault 23) (says a ls)
+abbrev pub limited : {A : Type 0} → List ℕ → (A → Bool) → A → Lines → Line A
+limited key over a ls = cond (over a) (fault (large key)) (says a ls)
 
-abbrev pub formed : {A : Type 0} → (List ℕ → Option A) → (A → Bool) → Keyed → Line A
-formed form over missing = fault 21
-formed form over (value v ls) = limited over (form v) ls
+abbrev pub formed : {A : Type 0} → List ℕ → (List ℕ → Option A) → (A → Bool) → List ℕ → Option A → Lines → Line A
+formed key form over v none ls = fault (unformed key (λ u. given (form u)) v)
+formed key form over v (some a) ls = limited key over a ls
+
+abbrev pub valued : {A : Type 0} → List ℕ → (List ℕ → Option A) → (A → Bool) → Keyed → Line A
+valued key form over missing = fault absent
+valued key form over (value v ls) = formed key form over v (form v) ls
 
 -- "21 before 22 before 23 in a line"
 abbrev pub asked : {A : Type 0} → List ℕ → (List ℕ → Option A) → (A → Bool) → Lines → Line A
-asked key form over ls = formed form over (keyed key ls)
+asked key form over ls = valued key form over (keyed key ls)
 
 -- ---- line by line
 
--- what some lines say, the number of the line that comes next, and the lines from there; or the number and the line of the first fault
+-- what some lines say, the number of the line that comes next, and the lines from there; or what is wrong with the first faulty line, and its number
 pub data Found (A : Type 0) : Type 0 where
   found : A → ℕ → Lines → Found A
-  refused : ℕ → ℕ → Found A
+  refused : Cause → ℕ → Found A
 
 -- the number of the next line, and the lines from there
 abbrev pub Reader : Type 0 → Type 0
@@ -73,7 +92,7 @@ Reader A = ℕ → Lines → Found A
 
 abbrev pub placed : {A : Type 0} → ℕ → Line A → Found A
 placed place (says a ls) = found a (place + 1) ls
-placed place (fault number) = refused number place
+placed place (fault why) = refused why place
 
 -- one line with its place
 abbrev pub next : {A : Type 0} → (Lines → Line A) → Reader A
@@ -81,7 +100,7 @@ next read place ls = placed place (read ls)
 
 abbrev pub goOn : {A B : Type 0} → Found A → (A → Reader B) → Found B
 goOn (found a place ls) f = f a place ls
-goOn (refused number place) f = refused number place
+goOn (refused why place) f = refused why place
 
 -- "Text is judged line by line": the first fault decides
 infixl 10 _>>=_
@@ -99,8 +118,8 @@ times (suc k) r = r >>= λ a. times k r >>= λ more. give (a ∷ more)
 -- row 21: a line "follows the end"
 abbrev pub over : Reader (Unit {0})
 over place done = found tt place done
-over place broken = refused 21 place
-over place (line l ls) = refused 21 place
+over place broken = refused absent place
+over place (line l ls) = refused absent place
 
 -- a line that may be left out: a line with another key is not this one, and then a is meant
 abbrev pub leftOut : {A : Type 0} → A → (Lines → Line A) → Keyed → Reader A
@@ -220,8 +239,28 @@ pub data Outcome : Type 0 where
 
 abbrev pub outcome : Found Job → Outcome
 outcome (found j place ls) = job j
-outcome (refused number place) = fault number place
+outcome (refused why place) = fault (numberOf why) place
 
 -- "20 comes first"; "counted from 1"
 unfoldable pub readJob : List ℕ → Outcome
 readJob text = cond (ltb mostBytes (length text)) (fault 20 0) (outcome (jobLines 1 (lines text)))
+
+-- ---- the column of the first fault (docs/RULES.md, "Columns")
+
+-- 21: 1; 22: the smallest c such that the first c bytes begin no right line; 23: the byte behind the `=`
+abbrev pub ColumnOf : Cause → ℕ → Type 0
+ColumnOf absent c = c ≡ 1
+ColumnOf (unformed key right v) c = FirstWrong (RightLine key right) (key ++ (v ++ (newline ∷ []))) c
+ColumnOf (large key) c = c ≡ length key + 1
+
+abbrev pub ColumnIn : {A : Type 0} → Found A → ℕ → Type 0
+ColumnIn (found a place ls) c = c ≡ 0
+ColumnIn (refused why place) c = ColumnOf why c
+
+-- 0 for a job and for row 20
+abbrev pub ColumnIf : Bool → Lines → ℕ → Type 0
+ColumnIf true ls c = c ≡ 0
+ColumnIf false ls c = ColumnIn (jobLines 1 ls) c
+
+abbrev pub Column : List ℕ → ℕ → Type 0
+Column text c = ColumnIf (ltb mostBytes (length text)) (lines text) c

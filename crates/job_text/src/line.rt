@@ -1,30 +1,33 @@
-// The lines of the job text: each is found by its key at a place of the text, and its value is read. Relies on `part` and `value`.
-use crate::part::alike;
-use crate::part::find;
-use crate::value::EdgeValue;
-use crate::value::Form;
-use crate::value::FormWord;
-use crate::value::Kind;
-use crate::value::KindWord;
-use crate::value::Number;
-use crate::value::read_edge;
-use crate::value::read_form;
-use crate::value::read_kind;
-use crate::value::read_needs;
-use crate::value::read_number;
-use crate::value::usual_kind;
+// The lines of the job text: each is found by its key at a place of the text, and its value is read. A fault carries its line and its column. Relies on the
+// crate `job_values`.
+use job_values::field::Field;
+use job_values::field::number_field;
+use job_values::part::alike;
+use job_values::part::find;
+use job_values::value::EdgeValue;
+use job_values::value::Form;
+use job_values::value::FormValue;
+use job_values::value::Kind;
+use job_values::value::KindValue;
+use job_values::value::WordValue;
+use job_values::value::read_edge;
+use job_values::value::read_end;
+use job_values::value::read_form;
+use job_values::value::read_kind;
+use job_values::value::read_needs;
+use job_values::value::usual_kind;
 ghost use mathlib.Core.Path.{_≡_};
-ghost use Prim.Native.Nat.{_≤_, _<_};
-ghost use lib.ListN.{drop};
+ghost use Prim.Native.Nat.{suc, _-_, _≤_, _<_};
+ghost use lib.ListN.{length, drop};
 ghost use Rattle.job_text.specs.Text.{lines};
 ghost use Rattle.job_text.specs.Value.{number, edge, needs, end, mostCount};
 ghost use Rattle.job_text.specs.Job.{asked, above, unlimited, need=, edge=, end=, formLine, kindLine};
-ghost use Rattle.job_text.specs.Given.{noSpan, SpanAt, numberSays, formFound, kindFound, needFault, needSays, edgeSays, endSays};
+ghost use Rattle.job_text.specs.Given.{noSpan, SpanAt, faultAt, needFault, NumberAt, FormAt, KindAt, NeedAt, EdgeAt, EndAt};
 
 const NEWLINE: u8 = 10;
 
 // Rows 21 to 23.
-pub(crate) const MISSING: u32 = 21;
+const MISSING: u32 = 21;
 
 const MALFORMED: u32 = 22;
 
@@ -37,10 +40,17 @@ pub(crate) struct Span {
     pub end: usize,
 }
 
-// What a line with a number says, and where the next one begins; or the number of its fault.
+// What is wrong with a text, and where: the row, the line and the column, both counted from 1.
+pub(crate) struct Fault {
+    pub number: u32,
+    pub line: u32,
+    pub column: usize,
+}
+
+// What a line with a number says, and where the next one begins; or its fault.
 pub(crate) enum NumberLine {
     Value { value: u32, next: usize },
-    Fault { number: u32 },
+    Fault(Fault),
 }
 
 pub(crate) enum EdgeLine {
@@ -50,27 +60,25 @@ pub(crate) enum EdgeLine {
         marks: u32,
         next: usize,
     },
-    Fault {
-        number: u32,
-    },
+    Fault(Fault),
 }
 
-// The form and where the next line begins, with that line's number; or the number of its fault.
+// The form and where the next line begins, with that line's number; or the fault.
 pub(crate) enum FormLine {
     Form { form: Form, next: usize, line: u32 },
-    Fault { number: u32 },
+    Fault(Fault),
 }
 
-// The kind and where the next line begins, with that line's number; or the fault and its place.
+// The kind and where the next line begins, with that line's number; or the fault.
 pub(crate) enum KindLine {
     Kind { kind: Kind, next: usize, line: u32 },
-    Refused { number: u32, place: u32 },
+    Fault(Fault),
 }
 
-// Where the next line begins, or the number of this one's fault.
+// Where the next line begins, or this one's fault.
 pub(crate) enum Step {
     Next { next: usize },
-    Fault { number: u32 },
+    Fault(Fault),
 }
 
 // The needs stand beside the step: zeros where the line is at fault.
@@ -111,31 +119,56 @@ pub(crate) fn find_line(text: &[u8], at: usize, key: &[u8]) -> Span
     no_span()
 }
 
-// A line with a number of at most `most`.
-pub(crate) fn number_line(text: &[u8], at: usize, key: &[u8], most: u32) -> NumberLine
-    ensures { λ r. ⌜ numberSays (now (text .entry)) r ≡ asked (now (key .entry)) number (above most) (lines (drop at (now (text .entry)))) ⌝ }
+// A line that is missing, at its first byte.
+pub(crate) fn missing(line: u32) -> Fault
+    ensures { λ r. ⌜ r ≡ faultAt 21 line 1 ⌝ }
+{
+    Fault {
+        number: MISSING,
+        line,
+        column: 1,
+    }
+}
+
+// A fault of the line at `at`, at the byte `place` of the text.
+fn fault_at(text: &[u8], number: u32, line: u32, at: usize, place: usize) -> Fault
+    requires { ⌜ (at ≤ place) × (place < length (now text)) ⌝ }
+    ensures { λ r. ⌜ r ≡ faultAt number line (suc (place - at)) ⌝ }
+{
+    Fault {
+        number,
+        line,
+        column: place - at + 1,
+    }
+}
+
+// A line with a number of at most `most`; `line` is its number.
+pub(crate) fn number_line(text: &[u8], at: usize, line: u32, key: &[u8], most: u32) -> NumberLine
+    ensures { λ r. ⌜ NumberAt (now (text .entry)) (asked (now (key .entry)) number (above most) (lines (drop at (now (text .entry))))) line r ⌝ }
 {
     let span = find_line(text, at, key);
     if !span.found {
-        return NumberLine::Fault { number: MISSING };
+        return NumberLine::Fault(missing(line));
     }
     let from = span.from;
     let end = span.end;
-    let Number::Value(value) = read_number(&text[from..end]) else {
-        return NumberLine::Fault { number: MALFORMED };
-    };
-    if most < value {
-        return NumberLine::Fault { number: ABOVE };
-    }
-    NumberLine::Value {
-        value,
-        next: end + 1,
+    match number_field(text, from, end, NEWLINE) {
+        Field::Wrong { at: wrong } => NumberLine::Fault(fault_at(text, MALFORMED, line, at, wrong)),
+        Field::Value { value, next: _ } => {
+            if most < value {
+                return NumberLine::Fault(fault_at(text, ABOVE, line, at, from));
+            }
+            NumberLine::Value {
+                value,
+                next: end + 1,
+            }
+        }
     }
 }
 
 // The form's line, which may be left out: the first one.
 pub(crate) fn form_line(text: &[u8]) -> FormLine
-    ensures { λ r. ⌜ formFound (now (text .entry)) r ≡ formLine 1 (lines (now (text .entry))) ⌝ }
+    ensures { λ r. ⌜ FormAt (now (text .entry)) (formLine 1 (lines (now (text .entry)))) r ⌝ }
 {
     let span = find_line(text, 0, b"form=");
     if !span.found {
@@ -145,22 +178,21 @@ pub(crate) fn form_line(text: &[u8]) -> FormLine
             line: 1,
         };
     }
-    let from = span.from;
     let end = span.end;
-    let FormWord::Form(form) = read_form(&text[from..end]) else {
-        return FormLine::Fault { number: MALFORMED };
-    };
-    FormLine::Form {
-        form,
-        next: end + 1,
-        line: 2,
+    match read_form(text, span.from, end) {
+        FormValue::Wrong { at: wrong } => FormLine::Fault(fault_at(text, MALFORMED, 1, 0, wrong)),
+        FormValue::Form(form) => FormLine::Form {
+            form,
+            next: end + 1,
+            line: 2,
+        },
     }
 }
 
 // The kind line, which may be left out; `line` is its number.
 pub(crate) fn kind_line(text: &[u8], at: usize, line: u32, form: Form) -> KindLine
     requires { ⌜ line < 65536 ⌝ }
-    ensures { λ r. ⌜ kindFound (now (text .entry)) r ≡ kindLine form line (lines (drop at (now (text .entry)))) ⌝ }
+    ensures { λ r. ⌜ KindAt (now (text .entry)) (kindLine form line (lines (drop at (now (text .entry))))) r ⌝ }
 {
     let span = find_line(text, at, b"kind=");
     if !span.found {
@@ -170,45 +202,46 @@ pub(crate) fn kind_line(text: &[u8], at: usize, line: u32, form: Form) -> KindLi
             line,
         };
     }
-    let from = span.from;
     let end = span.end;
-    let KindWord::Kind(kind) = read_kind(&text[from..end]) else {
-        return KindLine::Refused {
-            number: MALFORMED,
-            place: line,
-        };
-    };
-    KindLine::Kind {
-        kind,
-        next: end + 1,
-        line: line + 1,
+    match read_kind(text, span.from, end) {
+        KindValue::Wrong { at: wrong } => KindLine::Fault(fault_at(
+            text,
+            MALFORMED,
+            line,
+            at,
+            wrong,
+        )),
+        KindValue::Kind(kind) => KindLine::Kind {
+            kind,
+            next: end + 1,
+            line: line + 1,
+        },
     }
 }
 
 // A need line at fault.
-fn need_fault(number: u32) -> NeedLine
-    ensures { λ r. ⌜ r ≡ needFault number ⌝ }
+fn need_fault(fault: Fault) -> NeedLine
+    ensures { λ r. ⌜ r ≡ needFault fault ⌝ }
 {
     NeedLine {
-        step: Step::Fault { number },
+        step: Step::Fault(fault),
         needs: [0; 8],
     }
 }
 
-// The need line.
-pub(crate) fn need_line(text: &[u8], at: usize, kind: Kind, count: u32) -> NeedLine
+// The need line; `line` is its number.
+pub(crate) fn need_line(text: &[u8], at: usize, line: u32, kind: Kind, count: u32) -> NeedLine
     requires { ⌜ count ≤ mostCount kind ⌝ }
-    ensures { λ r. ⌜ needSays (now (text .entry)) r ≡ asked need= (needs kind count) unlimited (lines (drop at (now (text .entry)))) ⌝ }
+    ensures { λ r. ⌜ NeedAt (now (text .entry)) (asked need= (needs kind count) unlimited (lines (drop at (now (text .entry))))) line r ⌝ }
 {
     let span = find_line(text, at, b"need=");
     if !span.found {
-        return need_fault(MISSING);
+        return need_fault(missing(line));
     }
-    let from = span.from;
     let end = span.end;
-    let list = read_needs(&text[from..end], kind, count);
+    let list = read_needs(text, span.from, end, kind, count);
     if !list.formed {
-        return need_fault(MALFORMED);
+        return need_fault(fault_at(text, MALFORMED, line, at, list.wrong));
     }
     let needs = list.needs;
     NeedLine {
@@ -217,39 +250,43 @@ pub(crate) fn need_line(text: &[u8], at: usize, kind: Kind, count: u32) -> NeedL
     }
 }
 
-// An edge line.
-pub(crate) fn edge_line(text: &[u8], at: usize) -> EdgeLine
-    ensures { λ r. ⌜ edgeSays (now (text .entry)) r ≡ asked edge= edge unlimited (lines (drop at (now (text .entry)))) ⌝ }
+// An edge line; `line` is its number.
+pub(crate) fn edge_line(text: &[u8], at: usize, line: u32) -> EdgeLine
+    ensures { λ r. ⌜ EdgeAt (now (text .entry)) (asked edge= edge unlimited (lines (drop at (now (text .entry))))) line r ⌝ }
 {
     let span = find_line(text, at, b"edge=");
     if !span.found {
-        return EdgeLine::Fault { number: MISSING };
+        return EdgeLine::Fault(missing(line));
     }
-    let start = span.from;
     let end = span.end;
-    let EdgeValue::Edge { from, to, marks } = read_edge(&text[start..end]) else {
-        return EdgeLine::Fault { number: MALFORMED };
-    };
-    EdgeLine::Edge {
-        from,
-        to,
-        marks,
-        next: end + 1,
+    match read_edge(text, span.from, end) {
+        EdgeValue::Wrong { at: wrong } => EdgeLine::Fault(fault_at(
+            text,
+            MALFORMED,
+            line,
+            at,
+            wrong,
+        )),
+        EdgeValue::Edge { from, to, marks } => EdgeLine::Edge {
+            from,
+            to,
+            marks,
+            next: end + 1,
+        },
     }
 }
 
-// The end line.
-pub(crate) fn end_line(text: &[u8], at: usize) -> Step
-    ensures { λ r. ⌜ endSays (now (text .entry)) r ≡ asked end= end unlimited (lines (drop at (now (text .entry)))) ⌝ }
+// The end line; `line` is its number.
+pub(crate) fn end_line(text: &[u8], at: usize, line: u32) -> Step
+    ensures { λ r. ⌜ EndAt (now (text .entry)) (asked end= end unlimited (lines (drop at (now (text .entry))))) line r ⌝ }
 {
     let span = find_line(text, at, b"end=");
     if !span.found {
-        return Step::Fault { number: MISSING };
+        return Step::Fault(missing(line));
     }
-    let from = span.from;
     let end = span.end;
-    if alike(&text[from..end], b"job") {
-        return Step::Next { next: end + 1 };
+    match read_end(text, span.from, end) {
+        WordValue::Wrong { at: wrong } => Step::Fault(fault_at(text, MALFORMED, line, at, wrong)),
+        WordValue::Right => Step::Next { next: end + 1 },
     }
-    Step::Fault { number: MALFORMED }
 }

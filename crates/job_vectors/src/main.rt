@@ -61,6 +61,7 @@ fn print_reading(text: &[u8]) {
     if let Finding::Refused { number, place } = finding {
         print_number(b"refused ", number);
         print_number(b" ", place);
+        print_number(b" ", job.column);
         print(b"\n");
         return;
     }

@@ -11,8 +11,8 @@ use lib.Seq.{drop-cons}
 use borrow.Author.Tests.{le-ltb}
 use Rattle.marks.specs.Mark.{width}
 use Rattle.puts.specs.Put.{decimalIn, decimal, joined}
-use Rattle.job_text.specs.declared.value.Form.the-variants as form-is
-use Rattle.job_text.specs.declared.value.Kind.the-variants as kind-is
+use Rattle.job_values.specs.declared.value.Form.the-variants as form-is
+use Rattle.job_values.specs.declared.value.Kind.the-variants as kind-is
 use Rattle.job_text.specs.Text.{newline, comma, Lines, done, line, lines, same}
 use Rattle.job_text.specs.Value.{number, textForm, kind, needs, Edge, edge, end, buchi, dash, job, padded, mostNumber}
 use Rattle.job_text.specs.Job.{form=, states=, start=, kind=, count=, need=, edges=, edge=, end=}

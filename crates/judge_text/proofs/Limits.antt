@@ -9,12 +9,12 @@ use native.Mathlib.Omega.{arith}
 use lib.Dec.{ltb}
 use lib.ListN.{length}
 use borrow.Author.Tests.{ltb-false}
-use Rattle.job_text.specs.declared.value.Form.{Form}
-use Rattle.job_text.specs.declared.value.Form.the-variants.{One}
-use Rattle.job_text.specs.declared.value.Kind.{Kind}
+use Rattle.job_values.specs.declared.value.Form.{Form}
+use Rattle.job_values.specs.declared.value.Form.the-variants.{One}
+use Rattle.job_values.specs.declared.value.Kind.{Kind}
 use Rattle.job_text.specs.Text.{Lines, done, broken, line, lines}
 use Rattle.job_text.specs.Value.{number, textForm, kind, usualKind, needs, Edge, edge, end, mostCount}
-use Rattle.job_text.specs.Job.{mostBytes, mostJobStates, mostJobEdges, above, unlimited, Keyed, missing, value, keyed, Line, says, fault, limited, formed, asked}
+use Rattle.job_text.specs.Job.{mostBytes, mostJobStates, mostJobEdges, above, unlimited, Keyed, missing, value, keyed, numberOf, Line, says, fault, limited, formed, valued, asked}
 use Rattle.job_text.specs.Job.{Found, found, refused, Reader, placed, next, goOn, _>>=_, give, times, over, states=, start=, kind=, count=, need=, edges=, edge=, end=}
 use Rattle.job_text.specs.Job.{leftOut, perhaps, form=, formLine, kindLine, Head, countLines, stateLines, headLines, edgeLines, endLines, bodyLines, Job, jobLines, Outcome, job, fault as faulty, outcome, readJob}
 use Rattle.job_text.proofs.Text.{byTest}
@@ -42,11 +42,11 @@ row23 = record { low = omega arith; high = omega arith }
 
 abbrev FineLine : {A : Type 0} → (A → Type 0) → Line A → Type 0
 FineLine P (says a ls) = P a
-FineLine P (fault x) = LineRow x
+FineLine P (fault why) = LineRow (numberOf why)
 
 abbrev Fine : {A : Type 0} → (A → Type 0) → Found A → Type 0
 Fine P (found a place ls) = P a
-Fine P (refused x place) = LineRow x
+Fine P (refused why place) = LineRow (numberOf why)
 
 abbrev Any : {A : Type 0} → A → Type 0
 Any a = Unit {0}
@@ -57,16 +57,19 @@ module _ {A : Type 0} (P : A → Type 0) where
   placed-fine place (fault x) p = p
 
   module _ (form : List ℕ → Option A) (over : A → Bool) (under : (a : A) → over a ≡ false → P a) where
-    limited-fine : (o : Option A) (ls : Lines) → FineLine P (limited over o ls)
-    limited-fine none ls = row22
-    limited-fine (some a) ls = byTest (over a) (λ t. rw t row23) (λ t. rw t (under a t))
+    limited-fine : (key : List ℕ) (a : A) (ls : Lines) → FineLine P (limited key over a ls)
+    limited-fine key a ls = byTest (over a) (λ t. rw t row23) (λ t. rw t (under a t))
 
-    formed-fine : (k : Keyed) → FineLine P (formed form over k)
-    formed-fine missing = row21
-    formed-fine (value v ls) = limited-fine (form v) ls
+    formed-fine : (key v : List ℕ) (o : Option A) (ls : Lines) → FineLine P (formed key form over v o ls)
+    formed-fine key v none ls = row22
+    formed-fine key v (some a) ls = limited-fine key a ls
+
+    valued-fine : (key : List ℕ) (k : Keyed) → FineLine P (valued key form over k)
+    valued-fine key missing = row21
+    valued-fine key (value v ls) = formed-fine key v (form v) ls
 
     asked-fine : (key : List ℕ) (place : ℕ) (ls : Lines) → Fine P (next (asked key form over) place ls)
-    asked-fine key place ls = placed-fine place (asked key form over ls) (formed-fine (keyed key ls))
+    asked-fine key place ls = placed-fine place (asked key form over ls) (valued-fine key (keyed key ls))
 
 below-fine : (key : List ℕ) (most place : ℕ) (ls : Lines) → Fine (λ n. n ≤ most) (next (asked key number (above most)) place ls)
 below-fine key most = asked-fine (λ n. n ≤ most) number (above most) (λ n t. ltb-false most n t) key

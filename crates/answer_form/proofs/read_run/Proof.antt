@@ -2,7 +2,7 @@
 use mathlib.Core.Path.{sym, ap, _∙_}
 use borrow.Author.Tests.{not-true, not-false}
 use denote.Ref.{now}
-use Rattle.job_text.specs.Given.{numberGiven}
+use Rattle.job_values.specs.Given.{numberGiven}
 use Rattle.answer_form.proofs.Reading.{run-missing, pair-wrong, prefix-wrong, cycle-wrong, run-whole}
 use native.Mathlib.Omega.{arith}
 use borrow.Author.Needs.{needs}

@@ -2,7 +2,7 @@
 use mathlib.Core.Path.{sym, ap, _∙_}
 use borrow.Author.Tests.{eq-eqb, ne-eqb}
 use denote.Ref.{now}
-use Rattle.job_text.specs.Given.{numberGiven}
+use Rattle.job_values.specs.Given.{numberGiven}
 use Rattle.answer_form.proofs.Forms.{step-waits, step-number, step-none, step-digits}
 use borrow.Author.Needs.{needs}
 use Rattle.answer_form.proofs.read_step.Statement.{statement}

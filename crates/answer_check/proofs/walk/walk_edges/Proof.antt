@@ -4,7 +4,7 @@ use mathlib.Core.Path.{sym, ap, _∙_, subst}
 use Prim.Native.Nat.{_+_, _-_, _≤_}
 use denote.Ref.{now}
 use lib.ListN.{length}
-use Rattle.job_text.specs.Given.{numberGiven}
+use Rattle.job_values.specs.Given.{numberGiven}
 use Rattle.answer_check.specs.declared.walk.Walked.the-variants as walked
 use Rattle.answer_check.specs.inner.{GoSays}
 use Rattle.answer_check.proofs.Going.{Underway, set-out, never-wrong, breaks-here, goes-on, arrived}

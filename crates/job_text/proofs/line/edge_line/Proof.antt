@@ -1,11 +1,11 @@
 -- `line::edge_line` meets its contract: 21 where the line is not found, then 22 by the edge's reader. Assumes nothing.
-use mathlib.Core.Path.{refl, sym, ap, _∙_}
+use mathlib.Core.Path.{_≡_, refl, ap, subst}
 use denote.Ref.{now}
 use borrow.Author.Tests.{not-true, not-false}
+use Rattle.job_values.specs.inner.Told.{Unformed, EdgeAt}
 use Rattle.job_text.specs.Value.{edge}
 use Rattle.job_text.specs.Job.{unlimited, edge=}
-use Rattle.job_text.specs.Given.{edgeGiven}
-use Rattle.job_text.proofs.Lines.{asked-missing, asked-malformed, asked-says}
+use Rattle.job_text.proofs.Lines.{wrong-fits, asked-missing, asked-malformed, asked-says}
 use borrow.Author.Needs.{needs}
 use Rattle.job_text.proofs.line.edge_line.Statement.{statement}
 use Rattle.job_text.proofs.line.edge_line.Tie as tie
@@ -16,46 +16,53 @@ slice-aggregate-find-line c = search needs
 find-line-requires : tie.Need-find-line-requires
 find-line-requires c κs = search needs
 
+missing-requires : tie.Need-missing-requires
+missing-requires c κs = search needs
+
 returns : tie.Need-returns
 returns c =
-    let a = c .before .before .before .before .before .args in
-    let f = c .before .before .find-line in
-    sym (asked-missing edge unlimited (now (a .text)) (a .at) edge= (f .result) (f .ensures) (not-true _ (c .if1 .taken)))
-
-sub-read-edge : tie.Need-sub-read-edge
-sub-read-edge c = search needs
-
-part-read-edge-start : tie.Need-part-read-edge-start
-part-read-edge-start c = search needs
-
-part-read-edge-end : tie.Need-part-read-edge-end
-part-read-edge-end c = search needs
+    let a = c .before .before .before .before .before .before .args in
+    let f = c .before .before .before .find-line in
+    asked-missing (now (a .text)) (a .at) edge= (f .result) (f .ensures) edge unlimited (a .line) (c .missing .result) (not-true _ (c .before .if1 .taken)) (c .missing .ensures)
 
 read-edge-requires : tie.Need-read-edge-requires
-read-edge-requires c κs = search needs
+read-edge-requires c κs = c .before .before .find-line .ensures .there (not-false _ (c .if1 .left)) .within
+
+-- a value that is not of the form
+no-value : (c : tie.After-known-told)
+    → let f = c .before .before .before .before .before .before .find-line in
+    Unformed edge (now (c .before .before .before .before .before .before .before .before .before .args .text)) (f .result .from) (f .result .end) (c .before .wrong .given .0 .0)
+no-value c =
+    let f = c .before .before .before .before .before .before .find-line in
+    subst (EdgeAt (now (c .before .before .before .before .before .before .before .before .before .args .text)) (f .result .from) (f .result .end)) (c .before .wrong .given .1) (c .before .before .before .read-edge .ensures)
+
+enum-known-wrong : tie.Need-enum-known-wrong
+enum-known-wrong c = search needs
+
+fault-at-requires : tie.Need-fault-at-requires
+fault-at-requires c κs =
+    let a = c .before .before .before .before .before .before .before .before .before .args in
+    let f = c .before .before .before .before .before .before .find-line in
+    wrong-fits (now (a .text)) (a .at) edge= (f .result) (f .ensures) edge _ (not-false _ (c .before .before .before .before .if1 .left)) (no-value c)
 
 enum-known-from : tie.Need-enum-known-from
 enum-known-from c = search needs
 
-enum-told : tie.Need-enum-told
-enum-told c = search needs
+add-t18 : tie.Need-add-t18
+add-t18 c = search needs
 
 returns-2 : tie.Need-returns-2
 returns-2 c =
-    let a = c .before .before .before .before .before .before .before .before .before .args in
-    let f = c .before .before .before .before .before .before .find-line in
-    sym (asked-malformed edge unlimited (now (a .text)) (a .at) edge= (f .result) (f .ensures) (not-false _ (c .before .before .before .before .if1 .left))
-    (sym (c .before .before .read-edge .ensures) ∙ ap edgeGiven (c .enum-told .given .1)))
-
-add-t15 : tie.Need-add-t15
-add-t15 c = search needs
+    let a = c .before .before .before .before .before .before .before .before .before .before .args in
+    let f = c .before .before .before .before .before .before .before .find-line in
+    asked-malformed (now (a .text)) (a .at) edge= (f .result) (f .ensures) edge unlimited (a .line) (c .fault-at .result) (not-false _ (c .before .before .before .before .before .if1 .left)) _ (no-value (c .before)) (c .fault-at .ensures)
 
 returns-3 : tie.Need-returns-3
 returns-3 c =
-    let a = c .before .before .before .before .before .before .before .before .before .before .args in
-    let f = c .before .before .before .before .before .before .before .find-line in
-    sym (asked-says edge unlimited (now (a .text)) (a .at) edge= (f .result) (f .ensures) _ (not-false _ (c .before .before .before .before .before .if1 .left))
-    (sym (c .before .before .before .read-edge .ensures) ∙ ap edgeGiven (c .before .from .given .1)) refl)
+    let a = c .before .before .before .before .before .before .before .before .before .args in
+    let f = c .before .before .before .before .before .before .find-line in
+    asked-says (now (a .text)) (a .at) edge= (f .result) (f .ensures) edge unlimited _ (not-false _ (c .before .before .before .before .if1 .left))
+    (subst (EdgeAt (now (a .text)) (f .result .from) (f .result .end)) (c .before .from .given .1) (c .before .before .before .read-edge .ensures)) refl
 
 pub edge-line-spec : {M : Type 1} → statement M
 edge-line-spec =
@@ -63,13 +70,12 @@ edge-line-spec =
     (tie.spec
     slice-aggregate-find-line
     find-line-requires
+    missing-requires
     returns
-    sub-read-edge
-    part-read-edge-start
-    part-read-edge-end
     read-edge-requires
+    enum-known-wrong
+    fault-at-requires
     enum-known-from
-    enum-told
+    add-t18
     returns-2
-    add-t15
     returns-3)

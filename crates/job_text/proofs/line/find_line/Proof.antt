@@ -1,7 +1,7 @@
 -- `line::find_line` meets its contract: the search finds the line's end, and what stands where its key should is compared with it. Assumes nothing.
-use mathlib.Core.Path.{sym, _∙_}
+use mathlib.Core.Path.{refl, sym, _∙_}
 use denote.Ref.{now}
-use Rattle.job_text.proofs.Lines.{line-missing, line-short, line-other, line-found, span-missing}
+use Rattle.job_text.proofs.Lines.{line-missing, line-short, line-other, line-found, line-standing, span-missing}
 use native.Mathlib.Omega.{arith}
 use borrow.Author.Needs.{needs}
 use Rattle.job_text.proofs.line.find_line.Statement.{statement}
@@ -49,9 +49,9 @@ returns-3 c =
     let a = c .before .before .before .before .before .before .before .before .args in
     let f = c .before .before .before .before .before .find in
     record {
-      ordered = c .before .before .before .if2 .left;
       ends = omega arith;
       is = sym (line-found (now (a .text)) (a .at) (f .result) (f .ensures) (now (a .key)) (c .before .before .before .before .if1 .left) (c .before .before .before .if2 .left) (sym (c .before .alike .ensures) ∙ c .if3 .taken));
+      there = λ t. line-standing (now (a .text)) (a .at) (f .result) (f .ensures) (now (a .key)) (c .before .before .before .before .if1 .left) _ refl (c .before .before .before .if2 .left);
     }
 
 no-span-requires-3 : tie.Need-no-span-requires-3

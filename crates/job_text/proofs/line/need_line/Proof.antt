@@ -1,12 +1,14 @@
 -- `line::need_line` meets its contract: 21 where the line is not found, then 22 by the needs' reader. Assumes nothing.
-use mathlib.Core.Path.{refl, sym, ap, _∙_}
+use mathlib.Core.Path.{_≡_, refl, sym, subst}
 use denote.Ref.{now}
 use borrow.Author.Tests.{not-true, not-false}
+use Rattle.job_values.specs.inner.Told.{Unformed}
 use Rattle.job_text.specs.Value.{needs}
-use Rattle.job_text.specs.Job.{unlimited, need=}
-use Rattle.job_text.specs.Given.{needSays}
-use Rattle.job_text.proofs.Needs.{needs-wrong, needs-right}
-use Rattle.job_text.proofs.Lines.{asked-missing, asked-malformed, asked-says}
+use Rattle.job_text.specs.Job.{asked, unlimited, need=}
+use Rattle.job_text.specs.Given.{NeedAt}
+use Rattle.job_text.specs.Text.{lines}
+use lib.ListN.{drop}
+use Rattle.job_text.proofs.Lines.{wrong-fits, list-wrong, list-right, asked-missing, asked-malformed, asked-says}
 use borrow.Author.Needs.{needs as simple}
 use Rattle.job_text.proofs.line.need_line.Statement.{statement}
 use Rattle.job_text.proofs.line.need_line.Tie as tie
@@ -17,26 +19,39 @@ slice-aggregate-find-line c = search simple
 find-line-requires : tie.Need-find-line-requires
 find-line-requires c κs = search simple
 
+missing-requires : tie.Need-missing-requires
+missing-requires c κs = search simple
+
 need-fault-requires : tie.Need-need-fault-requires
 need-fault-requires c κs = search simple
 
 returns : tie.Need-returns
 returns c =
-    let a = c .before .before .before .before .before .before .args in
-    let f = c .before .before .before .find-line in
-    ap (needSays (now (a .text))) (c .need-fault .ensures) ∙ sym (asked-missing (needs (a .kind) (a .count)) unlimited (now (a .text)) (a .at) need= (f .result) (f .ensures) (not-true _ (c .before .if1 .taken)))
-
-sub-read-needs : tie.Need-sub-read-needs
-sub-read-needs c = search simple
-
-part-read-needs-start : tie.Need-part-read-needs-start
-part-read-needs-start c = search simple
-
-part-read-needs-end : tie.Need-part-read-needs-end
-part-read-needs-end c = search simple
+    let a = c .before .before .before .before .before .before .before .args in
+    let f = c .before .before .before .before .find-line in
+    let said = asked need= (needs (a .kind) (a .count)) unlimited (lines (drop (a .at) (now (a .text)))) in
+    subst (NeedAt (now (a .text)) said (a .line)) (sym (c .need-fault .ensures))
+    (asked-missing (now (a .text)) (a .at) need= (f .result) (f .ensures) (needs (a .kind) (a .count)) unlimited (a .line) (c .before .missing .result) (not-true _ (c .before .before .if1 .taken)) (c .before .missing .ensures))
 
 read-needs-requires : tie.Need-read-needs-requires
-read-needs-requires c κs = search simple
+read-needs-requires c κs = (c .before .before .find-line .ensures .there (not-false _ (c .if1 .left)) .within, c .before .before .before .before .before .pre)
+
+-- a value that is not of the form
+no-value : (c : tie.Then2)
+    → let a = c .before .before .before .before .before .before .before .before .args in
+    let f = c .before .before .before .before .before .find-line in
+    Unformed (needs (a .kind) (a .count)) (now (a .text)) (f .result .from) (f .result .end) (c .before .before .read-needs .result .wrong)
+no-value c =
+    let a = c .before .before .before .before .before .before .before .before .args in
+    let f = c .before .before .before .before .before .find-line in
+    let l = c .before .before .read-needs in
+    list-wrong (needs (a .kind) (a .count)) (now (a .text)) (f .result .from) (f .result .end) (l .result) (l .ensures) (not-true _ (c .if2 .taken))
+
+fault-at-requires : tie.Need-fault-at-requires
+fault-at-requires c κs =
+    let a = c .before .before .before .before .before .before .before .before .args in
+    let f = c .before .before .before .before .before .find-line in
+    wrong-fits (now (a .text)) (a .at) need= (f .result) (f .ensures) (needs (a .kind) (a .count)) _ (not-false _ (c .before .before .before .if1 .left)) (no-value c)
 
 need-fault-requires-2 : tie.Need-need-fault-requires-2
 need-fault-requires-2 c κs = search simple
@@ -45,17 +60,20 @@ returns-2 : tie.Need-returns-2
 returns-2 c =
     let a = c .before .before .before .before .before .before .before .before .before .before .args in
     let f = c .before .before .before .before .before .before .before .find-line in
-    ap (needSays (now (a .text))) (c .need-fault2 .ensures)
-    ∙ sym (asked-malformed (needs (a .kind) (a .count)) unlimited (now (a .text)) (a .at) need= (f .result) (f .ensures) (not-false _ (c .before .before .before .before .before .if1 .left)) (needs-wrong (c .before .before .before .read-needs .result) _ (c .before .before .before .read-needs .ensures) (not-true _ (c .before .if2 .taken))))
+    let said = asked need= (needs (a .kind) (a .count)) unlimited (lines (drop (a .at) (now (a .text)))) in
+    subst (NeedAt (now (a .text)) said (a .line)) (sym (c .need-fault2 .ensures))
+    (asked-malformed (now (a .text)) (a .at) need= (f .result) (f .ensures) (needs (a .kind) (a .count)) unlimited (a .line) (c .before .fault-at .result) (not-false _ (c .before .before .before .before .before .if1 .left)) _ (no-value (c .before .before)) (c .before .fault-at .ensures))
 
-add-t15 : tie.Need-add-t15
-add-t15 c = search simple
+add-t16 : tie.Need-add-t16
+add-t16 c = search simple
 
 returns-3 : tie.Need-returns-3
 returns-3 c =
-    let a = c .before .before .before .before .before .before .before .before .before .before .args in
-    let f = c .before .before .before .before .before .before .before .find-line in
-    sym (asked-says (needs (a .kind) (a .count)) unlimited (now (a .text)) (a .at) need= (f .result) (f .ensures) _ (not-false _ (c .before .before .before .before .before .if1 .left)) (needs-right (c .before .before .before .read-needs .result) _ (c .before .before .before .read-needs .ensures) (not-false _ (c .before .if2 .left))) refl)
+    let a = c .before .before .before .before .before .before .before .before .before .args in
+    let f = c .before .before .before .before .before .before .find-line in
+    let l = c .before .before .before .read-needs in
+    asked-says (now (a .text)) (a .at) need= (f .result) (f .ensures) (needs (a .kind) (a .count)) unlimited _ (not-false _ (c .before .before .before .before .if1 .left))
+    (list-right (needs (a .kind) (a .count)) (now (a .text)) (f .result .from) (f .result .end) (l .result) (l .ensures) (not-false _ (c .before .if2 .left))) refl
 
 pub need-line-spec : {M : Type 1} → statement M
 need-line-spec =
@@ -63,13 +81,12 @@ need-line-spec =
     (tie.spec
     slice-aggregate-find-line
     find-line-requires
+    missing-requires
     need-fault-requires
     returns
-    sub-read-needs
-    part-read-needs-start
-    part-read-needs-end
     read-needs-requires
+    fault-at-requires
     need-fault-requires-2
     returns-2
-    add-t15
+    add-t16
     returns-3)

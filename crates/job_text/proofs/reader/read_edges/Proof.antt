@@ -1,7 +1,8 @@
 -- `reader::read_edges` meets its contract: after i edge lines their edges stand in the tables, and the lines that are left decide (`SoFar`).
 -- The measure is the edges still to be read. Assumes nothing.
-use Prim.Native.Nat.{_-_}
+use Prim.Native.Nat.{_+_, _-_}
 use denote.Ref.{now}
+use Rattle.job_text.proofs.Heads.{blamed-at}
 use Rattle.job_text.proofs.Bodies.{SoFar, so-far-none, edge-stops, edge-goes, edges-done, edge-line-stops, edge-line-goes}
 use borrow.Author.Needs.{needs}
 use native.Mathlib.Omega.{arith}
@@ -19,6 +20,9 @@ loop-holds c =
     let start = c .before in
     so-far-none (now (start .args .text)) (start .args .at) (start .args .line) (start .args .edges) _ _ _ (start .pre)
 
+add-edge-line : tie.Need-add-edge-line Inv-loop μ-loop
+add-edge-line c = search needs
+
 edge-line-requires : tie.Need-edge-line-requires Inv-loop μ-loop
 edge-line-requires c κs = search needs
 
@@ -31,15 +35,13 @@ enum-told c = search needs
 edge-fault-requires : tie.Need-edge-fault-requires Inv-loop μ-loop
 edge-fault-requires c κs = search needs
 
-add-t18 : tie.Need-add-t18 Inv-loop μ-loop
-add-t18 c = search needs
-
 returns : tie.Need-returns Inv-loop μ-loop
 returns c =
     let a = c .before .before .before .before .before .before .before .args in
+    let text = now (a .text) in
     let l = c .before .before .before .before .before .loop in
-    edge-stops (now (a .text)) (a .at) (a .line) (a .edges) (l .from) (l .to) (l .marks) (l .next) (l .i) (l .inv) _ (c .before .before .before .before .loop-test .taken)
-    (edge-line-stops (now (a .text)) (c .edge-fault .ensures) (c .before .enum-told .given .1) (c .before .before .before .edge-line .ensures))
+    blamed-at text _ _ (a .line + l .i) _ (edge-line-stops text (a .line + l .i) (c .edge-fault .ensures) (c .before .enum-told .given .1) (c .before .before .before .edge-line .ensures))
+    (λ x e. edge-stops text (a .at) (a .line) (a .edges) (l .from) (l .to) (l .marks) (l .next) (l .i) (l .inv) x (c .before .before .before .before .loop-test .taken) e)
 
 cast-e : tie.Need-cast-e Inv-loop μ-loop
 cast-e c = search needs
@@ -72,7 +74,7 @@ loop-again : tie.Need-loop-again Inv-loop μ-loop
 loop-again c =
     let a = c .before .before .before .before .before .before .before .args in
     let l = c .before .before .before .before .before .loop in
-    edge-goes (now (a .text)) (a .at) (a .line) (a .edges) (l .from) (l .to) (l .marks) (l .next) (l .i) (l .inv) _ _ (c .before .before .before .before .loop-test .taken) (c .before .before .before .before .before .before .before .pre .few) (edge-line-goes (now (a .text)) (c .before .read .given .1) (c .before .before .before .edge-line .ensures))
+    edge-goes (now (a .text)) (a .at) (a .line) (a .edges) (l .from) (l .to) (l .marks) (l .next) (l .i) (l .inv) _ _ (c .before .before .before .before .loop-test .taken) (c .before .before .before .before .before .before .before .pre .few) (edge-line-goes (now (a .text)) (a .line + l .i) (c .before .read .given .1) (c .before .before .before .edge-line .ensures))
 
 returns-2 : tie.Need-returns-2 Inv-loop μ-loop
 returns-2 c =
@@ -87,11 +89,11 @@ read-edges-spec =
     Inv-loop
     μ-loop
     loop-holds
+    add-edge-line
     edge-line-requires
     enum-known-read
     enum-told
     edge-fault-requires
-    add-t18
     returns
     cast-e
     mul-from

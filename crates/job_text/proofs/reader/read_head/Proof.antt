@@ -1,13 +1,13 @@
 -- `reader::read_head` meets its contract: a fault of the form's line is the head's, and the rest is what `read_states` finds. Assumes nothing.
-use mathlib.Core.Path.{_≡_, sym, ap, _∙_}
+use mathlib.Core.Path.{_≡_, subst}
 use denote.Ref.{now}
 use lib.ListN.{drop}
-use Rattle.job_text.specs.declared.value.Form.the-variants.{One}
+use Rattle.job_values.specs.declared.value.Form.the-variants.{One}
 use Rattle.job_text.specs.Text.{lines}
 use Rattle.job_text.specs.Value.{textForm}
 use Rattle.job_text.specs.Job.{form=, found, formLine}
-use Rattle.job_text.specs.Given.{formFound}
-use Rattle.job_text.proofs.Heads.{form-stops, form-goes, perhaps-next, head-stops}
+use Rattle.job_text.specs.Given.{FormAt}
+use Rattle.job_text.proofs.Heads.{blamed-on, form-stops, form-goes, perhaps-next, head-stops}
 use native.Mathlib.Omega.{arith}
 use borrow.Author.Needs.{needs}
 use Rattle.job_text.proofs.reader.read_head.Statement.{statement}
@@ -17,13 +17,15 @@ use Rattle.job_text.proofs.reader.read_head.Tie as tie
 form-said : (c : tie.After-known-told2)
     → let text = now (c .before .before .before .before .before .args .text) in
     formLine 1 (lines text) ≡ found (c .before .form .given .0 .0) (c .before .form .given .0 .1 .1 .0) (lines (drop (c .before .form .given .0 .1 .0) text))
-form-said c = sym (c .before .before .before .form-line .ensures) ∙ ap (formFound (now (c .before .before .before .before .before .args .text))) (c .before .form .given .1)
+form-said c =
+    let text = now (c .before .before .before .before .before .args .text) in
+    subst (FormAt text (formLine 1 (lines text))) (c .before .form .given .1) (c .before .before .before .form-line .ensures)
 
 form-line-requires : tie.Need-form-line-requires
 form-line-requires c κs = search needs
 
-enum-known-number : tie.Need-enum-known-number
-enum-known-number c = search needs
+enum-known-fault : tie.Need-enum-known-fault
+enum-known-fault c = search needs
 
 head-refused-requires : tie.Need-head-refused-requires
 head-refused-requires c κs = search needs
@@ -37,8 +39,8 @@ read-states-requires c κs = omega (arith, perhaps-next form= textForm One 1 (li
 returns : tie.Need-returns
 returns c =
     let text = now (c .before .before .before .before .before .before .args .text) in
-    head-stops text _ _ _ _ (c .head-refused .ensures)
-    (form-stops 1 (lines text) _ _ (sym (c .before .before .before .before .form-line .ensures) ∙ ap (formFound text) (c .before .before .number .given .1)))
+    head-stops text _ _ _ (c .head-refused .ensures)
+    (blamed-on text (formLine 1 (lines text)) _ _ (subst (FormAt text (formLine 1 (lines text))) (c .before .before .fault .given .1) (c .before .before .before .before .form-line .ensures)) (form-stops 1 (lines text)))
 
 returns-2 : tie.Need-returns-2
 returns-2 c =
@@ -50,7 +52,7 @@ read-head-spec =
     tie.close
     (tie.spec
     form-line-requires
-    enum-known-number
+    enum-known-fault
     head-refused-requires
     enum-known-form
     read-states-requires

@@ -1,0 +1,14 @@
+pub mod Sets
+pub mod Cut
+pub mod Pad
+pub mod Numbers
+pub mod Fields
+pub mod Runs
+pub mod Marks
+pub mod Words
+pub mod Losses
+pub mod Edges
+pub mod Spoken
+pub mod Needs
+pub mod Columns
+pub mod Promises

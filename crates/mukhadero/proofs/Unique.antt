@@ -13,14 +13,16 @@ use Rattle.table.specs.Table.{Table}
 use Rattle.table.specs.Verdict.{kindOf, numberOf, placeOf}
 use Rattle.judging.proofs.Unique.{Alike, answers-alike}
 use Rattle.one_mark.proofs.Faithful.{one-result}
-use Rattle.mukhadero.specs.declared.AnswerNumbers.{AnswerNumbers}
-use Rattle.mukhadero.specs.declared.TableNumbers.{TableNumbers}
+use Rattle.face.specs.declared.AnswerNumbers.{AnswerNumbers}
+use Rattle.face.specs.declared.TableNumbers.{TableNumbers}
 use Rattle.writing.proofs.Writings.{given-once}
 use Rattle.hoa.proofs.Returning.{read-once as once}
-use Rattle.mukhadero.specs.declared.hanoi.HoaNumbers.{HoaNumbers}
-use Rattle.mukhadero.specs.declared.hanoi.TextNumbers.{TextNumbers}
-use Rattle.mukhadero.specs.Hoa.{ReadTells, TextTells, hoaNumbers, textNumbers}
-use Rattle.mukhadero.specs.Numbers.{JudgeTells, TranslationTells, answerNumbers, tableNumbers}
+use Rattle.face.specs.declared.hanoi.HoaNumbers.{HoaNumbers}
+use Rattle.face.specs.declared.hanoi.TextNumbers.{TextNumbers}
+use Rattle.face.specs.Hoa.{hoaNumbers, textNumbers}
+use Rattle.face.specs.Numbers.{answerNumbers, tableNumbers}
+use Rattle.mukhadero.specs.Hoa.{ReadTells, TextTells}
+use Rattle.mukhadero.specs.Numbers.{JudgeTells, TranslationTells}
 
 -- ---- the judge
 

@@ -6,27 +6,14 @@ use lib.ListN.{replicate}
 use Rattle.table.specs.declared.Acceptance.{Acceptance}
 use Rattle.table.specs.declared.Answer.{Answer}
 use Rattle.table.specs.Table.{Table}
-use Rattle.table.specs.Verdict.{kindOf, numberOf, placeOf, pairOf, prefixOf, cycleOf}
 use Rattle.judging.specs.Answer.{Answers}
 use Rattle.one_mark.specs.declared.Translation.{Translation}
-use Rattle.one_mark.specs.Outcome.{Outcome, statesOf, edgesOf, startOf, numberOf as tableNumberOf, placeOf as tablePlaceOf}
-use Rattle.mukhadero.specs.declared.AnswerNumbers.{AnswerNumbers}
-use Rattle.mukhadero.specs.declared.TableNumbers.{TableNumbers}
+use Rattle.one_mark.specs.Outcome.{Outcome}
+use Rattle.face.specs.declared.AnswerNumbers.{AnswerNumbers}
+use Rattle.face.specs.declared.TableNumbers.{TableNumbers}
+use Rattle.face.specs.Numbers.{answerNumbers, tableNumbers}
 
 -- ---- the judge
-
--- an answer in plain numbers
-abbrev pub answerNumbers : Answer → AnswerNumbers
-answerNumbers a =
-    record {
-      verdict = kindOf (a .verdict);
-      number = numberOf (a .verdict);
-      place = placeOf (a .verdict);
-      pair = pairOf (a .verdict);
-      prefix = prefixOf (a .verdict);
-      cycle = cycleOf (a .verdict);
-      depth = a .depth;
-    }
 
 -- kinds other than Rabin do not read the needs
 abbrev pub noNeeds : List ℕ
@@ -39,11 +26,6 @@ pub record JudgeTells (t : Table) (c : Acceptance) (needs room room' scratch scr
   pub told : r ≡ answerNumbers answer
 
 -- ---- the translation
-
--- its answer in plain numbers
-abbrev pub tableNumbers : Translation → TableNumbers
-tableNumbers a =
-    record { number = tableNumberOf a; place = tablePlaceOf a; states = statesOf a; edges = edgesOf a; start = startOf a }
 
 -- the numbers are those of the answer that the translation promises, and the outputs hold what it promises
 pub record TranslationTells (t : Table) (k : ℕ) (from to marks : List ℕ) (r : TableNumbers) (from' to' marks' : List ℕ) : Type 0 where

@@ -1,9 +1,9 @@
-// The C face of the job text's writer (docs/RULES.md, "The job text and the printed answer", the writer), with its answer in plain numbers. It takes any
-// input; relies on `job_writer` for all that it says.
+// The C face of the job text's writer (docs/RULES.md, "The job text and the printed answer", the writer), with its answer in plain numbers
+// (`face`). It takes any input; relies on `job_writer` for all that it says.
 ghost use Rattle.table.specs.Table.{lent};
 ghost use Rattle.mukhadero.specs.Hoa.{JobTells};
-use crate::hanoi::TextNumbers;
-use crate::hanoi::text_numbers;
+use face::hanoi::TextNumbers;
+use face::hanoi::text_numbers;
 use job_writer::write_job;
 use marks::Marks;
 

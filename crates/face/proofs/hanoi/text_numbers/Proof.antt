@@ -1,9 +1,9 @@
 -- `text_numbers` meets its contract: each arm writes the numbers of the answer that its match found. Assumes nothing.
 use mathlib.Core.Path.{sym, ap}
 use borrow.Author.Needs.{needs}
-use Rattle.mukhadero.specs.Hoa.{textNumbers}
-use Rattle.mukhadero.proofs.hanoi.text_numbers.Statement.{statement}
-use Rattle.mukhadero.proofs.hanoi.text_numbers.Tie as tie
+use Rattle.face.specs.Hoa.{textNumbers}
+use Rattle.face.proofs.hanoi.text_numbers.Statement.{statement}
+use Rattle.face.proofs.hanoi.text_numbers.Tie as tie
 
 enum-known-written : tie.Need-enum-known-written
 enum-known-written c = search needs

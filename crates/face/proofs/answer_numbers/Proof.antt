@@ -2,9 +2,9 @@
 use mathlib.Core.Path.{sym, ap}
 use borrow.Author.Needs.{needs}
 use Rattle.table.specs.declared.Verdict.{Verdict}
-use Rattle.mukhadero.specs.Numbers.{answerNumbers}
-use Rattle.mukhadero.proofs.answer_numbers.Statement.{statement}
-use Rattle.mukhadero.proofs.answer_numbers.Tie as tie
+use Rattle.face.specs.Numbers.{answerNumbers}
+use Rattle.face.proofs.answer_numbers.Statement.{statement}
+use Rattle.face.proofs.answer_numbers.Tie as tie
 
 enum-known-verdict : tie.Need-enum-known-verdict
 enum-known-verdict c = search needs

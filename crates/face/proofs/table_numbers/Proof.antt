@@ -1,9 +1,9 @@
 -- `table_numbers` meets its contract: each arm writes the numbers of the answer that its match found. Assumes nothing.
 use mathlib.Core.Path.{sym, ap}
 use borrow.Author.Needs.{needs}
-use Rattle.mukhadero.specs.Numbers.{tableNumbers}
-use Rattle.mukhadero.proofs.table_numbers.Statement.{statement}
-use Rattle.mukhadero.proofs.table_numbers.Tie as tie
+use Rattle.face.specs.Numbers.{tableNumbers}
+use Rattle.face.proofs.table_numbers.Statement.{statement}
+use Rattle.face.proofs.table_numbers.Tie as tie
 
 enum-known-answer : tie.Need-enum-known-answer
 enum-known-answer c = search needs

@@ -1,7 +1,7 @@
 -- `hoa_numbers` meets its contract: each field is the number that its function gives. Assumes nothing.
 use borrow.Author.Needs.{needs}
-use Rattle.mukhadero.proofs.hanoi.hoa_numbers.Statement.{statement}
-use Rattle.mukhadero.proofs.hanoi.hoa_numbers.Tie as tie
+use Rattle.face.proofs.hanoi.hoa_numbers.Statement.{statement}
+use Rattle.face.proofs.hanoi.hoa_numbers.Tie as tie
 
 finding-place-requires : tie.Need-finding-place-requires
 finding-place-requires c κs = search needs

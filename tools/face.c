@@ -39,8 +39,10 @@ int main(void) {
     expect(room[0] == 0 && to[room[a.prefix_length - 1]] == from[room[a.prefix_length]], "the lasso stands in the room");
     a = mukhadero_judge_buchi(STATES, 0, from, EDGES, to, EDGES, marks, EDGES, 2, room, ROOM, scratch, SCRATCH);
     expect(a.verdict == MUKHADERO_VERDICT_EMPTY && a.number == MUKHADERO_ANSWERED, "mark 0 does not come round");
+    a = mukhadero_judge_streett(1, 0, loop, 1, loop, 1, mark, 1, 1, room, ROOM, scratch, SCRATCH);
+    expect(a.verdict == MUKHADERO_VERDICT_EMPTY && a.depth == 1, "one loop with a left mark: one level");
     a = mukhadero_judge_streett(STATES, 0, from, EDGES, to, EDGES, marks, EDGES, 0, room, ROOM, scratch, SCRATCH);
-    expect(a.verdict == MUKHADERO_VERDICT_REFUSED && a.number == MUKHADERO_REFUSED_EDGE_MARK && a.place == 0, "a mark that the condition does not use");
+    expect(a.verdict == MUKHADERO_VERDICT_REFUSED && a.number == MUKHADERO_REFUSED_EDGE_MARK && a.place == 0 && a.depth == 0, "a mark that the condition does not use");
     t = mukhadero_one_mark(STATES, 0, from, EDGES, to, EDGES, marks, EDGES, 1, out_from, 5, out_to, 5, out_marks, 5);
     expect(t.number == MUKHADERO_REFUSED_EDGE_MARK && t.place == 2, "the translation refuses as the judge does");
 

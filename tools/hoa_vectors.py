@@ -193,7 +193,7 @@ def run_random(program):
     return tallied(((f"random text {number}: {text!r}", text, result(text)) for number, text in enumerate(texts)), program, fault_of_answer)
 
 
-REFUSAL = "verdict=refused\ncode=%d\nplace=%d\npair=-\nprefix=-\ncycle=-\n"
+REFUSAL = "verdict=refused\ncode=%d\nplace=%d\npair=-\ndepth=0\nprefix=-\ncycle=-\n"
 
 
 def written(job_text):

@@ -60,7 +60,7 @@ static mukhadero_answer judge(table t, condition c, lent room, lent scratch) {
     }
 }
 
-/* ---- the shift cases: the verdict, number and place, the pair, the edges of prefix and cycle */
+/* ---- the shift cases and tables of known depth: the verdict, number and place, the pair, the depth, the edges of prefix and cycle */
 
 static void print_list(const char *label, const uint32_t *cells, size_t count) {
     printf("%s", label);
@@ -70,13 +70,14 @@ static void print_list(const char *label, const uint32_t *cells, size_t count) {
 
 static void shift_case(uint32_t number, table t, condition c) {
     static const char *const words[] = {"refused", "empty", "run"};
-    lent room = lend(room_cells, 16), scratch = lend(scratch_cells, 128);
+    lent room = lend(room_cells, 24), scratch = lend(scratch_cells, 144);
     mukhadero_answer a = judge(t, c, room, scratch);
     printf("case=%u verdict=%s code=%u place=%u pair=", number, a.verdict < 3 ? words[a.verdict] : "?", a.number, a.place);
     if (a.verdict == MUKHADERO_VERDICT_RUN && c.kind == MUKHADERO_KIND_RABIN)
         printf("%u", a.pair);
     else
         printf("-");
+    printf(" depth=%u", a.depth);
     if (a.prefix_length > room.count || a.cycle_length > room.count - a.prefix_length) {
         printf(" beyond the room\n");
         return;
@@ -112,6 +113,18 @@ static void shift_cases(void) {
     shift_case(13, TABLE(2, 2, CELLS(0, 1), CELLS(1, 1), CELLS(1, 2)), one_needed); /* 0>1{0}, 1>1{1} */
 }
 
+/* 25: sixteen loops at one state, loop i with the left mark of pair i and the right mark of the next, so that each round erases one. */
+static void depths(void) {
+    uint32_t nested[16];
+    for (uint32_t i = 0; i < 16; i++) nested[i] = (uint32_t)1 << 2 * i | (i < 15 ? (uint32_t)1 << (2 * i + 3) : 0);
+    shift_case(21, TABLE(2, 2, CELLS(0, 1), CELLS(1, 0), CELLS(1, 0)), streett(1)); /* 0>1{0}, 1>0{}: only lone states are left */
+    shift_case(22, TABLE(2, 3, CELLS(0, 0, 1), CELLS(0, 1, 0), CELLS(4, 9, 0)), streett(2)); /* 0>0{2}, 0>1{0,3}, 1>0{} */
+    /* 0>0{0}, 0>1{}, 1>1{2}, 1>2{0,3}, 2>1{}: the deepest part is not in the start's component; then 0>0{2}, 0>1{0,3}, 1>0{}, 1>2{}, 2>2{0}: it is */
+    shift_case(23, TABLE(3, 5, CELLS(0, 0, 1, 1, 2), CELLS(0, 1, 1, 2, 1), CELLS(1, 0, 4, 9, 0)), streett(2));
+    shift_case(24, TABLE(3, 5, CELLS(0, 0, 1, 1, 2), CELLS(0, 1, 0, 2, 2), CELLS(4, 9, 0, 0, 1)), streett(2));
+    shift_case(25, TABLE(1, 16, zeros, zeros, nested), streett(16));
+}
+
 /*
  * ---- the judge: the verdict with its numbers, then a word on the lent cells: `zero` if room behind the lasso and scratch hold 0, `kept` if both hold 7,
  * else `wrong`
@@ -125,7 +138,7 @@ static void judge_over(const char *label, table t, condition c, size_t room_coun
     if (a.verdict == MUKHADERO_VERDICT_RUN)
         printf("%s: run prefix=%u cycle=%u pair=%u", label, a.prefix_length, a.cycle_length, a.pair);
     else if (a.verdict == MUKHADERO_VERDICT_EMPTY)
-        printf("%s: empty", label);
+        printf("%s: empty depth=%u", label, a.depth);
     else
         printf("%s: refused code=%u place=%u", label, a.number, a.place);
     if (end > room.count)
@@ -337,6 +350,7 @@ static void translation_limits(void) {
 
 int main(void) {
     shift_cases();
+    depths();
     judge_limits();
     translation_limits();
     return 0;

@@ -22,7 +22,7 @@ STORED = Path(__file__).resolve().parent.parent / "tests" / "translated"
 EXAMPLES = Path(__file__).resolve().parent.parent / "examples" / "jobs"
 MADE_STATES, MADE_EDGES = 4096, 32768  # row 10
 JOB_STATES, JOB_EDGES, JOB_BYTES = 256, 512, 11_336  # row 23, and the longest text
-REFUSAL = "verdict=refused\ncode=%d\nplace=%d\npair=-\nprefix=-\ncycle=-\n"
+REFUSAL = "verdict=refused\ncode=%d\nplace=%d\npair=-\ndepth=0\nprefix=-\ncycle=-\n"
 
 # ---- what is due ---------------------------------------------------------------------------------------------------------------------
 

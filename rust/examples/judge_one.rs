@@ -8,7 +8,7 @@ fn main() -> Result<(), Refusal> {
     let table = Table { states: 3, start: 0, from: &[0, 1, 2], to: &[1, 2, 1], marks: &[0b00, 0b01, 0b10] };
     match Judge::new().judge(&table, &Condition::Buchi { marks: 2 })? {
         Verdict::Run(lasso) => println!("run: prefix {:?}, cycle {:?}", lasso.prefix, lasso.cycle),
-        Verdict::Empty => println!("empty"),
+        Verdict::Empty { .. } => println!("empty"),
     }
     Ok(())
 }

@@ -26,6 +26,8 @@ pub struct Answer {
     pub prefix_length: u32,
     /// Edges of the cycle.
     pub cycle_length: u32,
+    /// How deep the erasing went, for an empty Streett verdict.
+    pub depth: u32,
 }
 
 /// `mukhadero_table`. All but number and place are 0 if it was refused.

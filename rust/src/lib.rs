@@ -25,11 +25,11 @@
 //!         assert_eq!(lasso.prefix, [0]);
 //!         assert_eq!(lasso.cycle, [1, 2]);
 //!     }
-//!     Verdict::Empty => unreachable!(),
+//!     Verdict::Empty { .. } => unreachable!(),
 //! }
 //!
 //! // A third mark is borne by no edge.
-//! assert_eq!(judge.judge(&table, &Condition::Buchi { marks: 3 })?, Verdict::Empty);
+//! assert_eq!(judge.judge(&table, &Condition::Buchi { marks: 3 })?, Verdict::Empty { depth: 0 });
 //! # Ok::<(), mukhadero::Refusal>(())
 //! ```
 //!
@@ -185,7 +185,10 @@ pub enum Verdict<'r> {
     /// There is an accepted lasso; here is one.
     Run(Lasso<'r>),
     /// There is none.
-    Empty,
+    Empty {
+        /// For a Streett condition how deep the erasing went: the deepest level of the erasing tree, 1 to the number of pairs; else 0.
+        depth: u32,
+    },
 }
 
 /// Cells of lasso room that are enough for a number of states and a condition.
@@ -246,7 +249,7 @@ pub fn judge<'r>(table: &Table, condition: &Condition, room: &'r mut [u32], scra
             let pair = matches!(condition, Condition::Rabin { .. }).then_some(answer.pair);
             Ok(Verdict::Run(Lasso { prefix, cycle, pair }))
         }
-        ffi::EMPTY => Ok(Verdict::Empty),
+        ffi::EMPTY => Ok(Verdict::Empty { depth: answer.depth }),
         _ => Err(Refusal::of(answer.number, answer.place)),
     }
 }
@@ -257,7 +260,7 @@ pub fn judge<'r>(table: &Table, condition: &Condition, room: &'r mut [u32], scra
 /// use mukhadero::{Condition, Judge, Table, Verdict};
 ///
 /// let table = Table { states: 2, start: 0, from: &[], to: &[], marks: &[] };
-/// assert_eq!(Judge::new().judge(&table, &Condition::Buchi { marks: 1 }), Ok(Verdict::Empty));
+/// assert_eq!(Judge::new().judge(&table, &Condition::Buchi { marks: 1 }), Ok(Verdict::Empty { depth: 0 }));
 /// ```
 #[derive(Clone, Debug, Default)]
 pub struct Judge {

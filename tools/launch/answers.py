@@ -7,7 +7,7 @@ from manners import EMPTY, REFUSED, RUN
 STATUS = {b"empty": EMPTY, b"run": RUN, b"refused": REFUSED}
 STOP = 65_535  # the waiting edge of a state that no edge leaves; printed `stop`
 EDGES = rb"(-|(?:\d+|stop)(?:,(?:\d+|stop))*)"
-ANSWER = re.compile(rb"verdict=(run|empty|refused)\ncode=(\d+)\nplace=(\d+)\npair=(-|\d+)\nprefix=" + EDGES + rb"\ncycle=" + EDGES + rb"\n")
+ANSWER = re.compile(rb"verdict=(run|empty|refused)\ncode=(\d+)\nplace=(\d+)\npair=(-|\d+)\ndepth=(\d+)\nprefix=" + EDGES + rb"\ncycle=" + EDGES + rb"\n")
 
 
 def read_answer(output, where, refused):
@@ -16,8 +16,8 @@ def read_answer(output, where, refused):
     found = ANSWER.fullmatch(output)
     if not found:
         return None
-    verdict, code, place, prefix, cycle = found[1], int(found[2]), int(found[3]), found[5], found[6]
-    if (verdict == b"refused") != (code != 0) or (verdict == b"run") != (cycle != b"-"):
+    verdict, code, place, depth, prefix, cycle = found[1], int(found[2]), int(found[3]), int(found[5]), found[6], found[7]
+    if (verdict == b"refused") != (code != 0) or (verdict == b"run") != (cycle != b"-") or depth and verdict != b"empty":
         return None
     if verdict == b"empty":
         sentence = "empty: no endless run meets the condition"

@@ -11,7 +11,7 @@ USE = """\
 use: tools/job_to_hoa [--quiet] [FILE]    writes the job text in FILE, or on standard input, as a text in the Hanoi format (HOA, version 1)
      tools/job_to_hoa --help | --version
 
-Standard output: the text; if the job is refused, the six lines of the refusal. Standard error: one sentence on what was done and, if the job is refused, where to
+Standard output: the text; if the job is refused, the lines of the refusal. Standard error: one sentence on what was done and, if the job is refused, where to
 look; not with --quiet. Exit status: 0 written, 2 refused, 3 no answer (also for wrong use). README.md has the job text and the codes.
 """
 

@@ -12,7 +12,7 @@ USE = """\
 use: tools/translate [--quiet] [FILE]    translates the job text in FILE, or on standard input, of the kind buchi, into a job with one mark
      tools/translate --help | --version
 
-Standard output: the translated job text; if the job is refused, the six lines of the refusal. Standard error: one sentence on what was done and, if the job is
+Standard output: the translated job text; if the job is refused, the lines of the refusal. Standard error: one sentence on what was done and, if the job is
 refused, where to look; not with --quiet. Exit status: 0 written, 2 refused, 3 no answer (also for wrong use). README.md has the job text and the codes.
 """
 
@@ -22,7 +22,7 @@ CAUSES = {
     b"10": "the translated table would have more than 4096 states",
     b"23": "the translated table would be above the limits of a job: 256 states and 512 edges",
 }
-REFUSAL = b"verdict=refused\ncode=%s\nplace=0\npair=-\nprefix=-\ncycle=-\n"
+REFUSAL = b"verdict=refused\ncode=%s\nplace=0\npair=-\ndepth=0\nprefix=-\ncycle=-\n"
 
 
 def counted(count, thing):

@@ -12,7 +12,7 @@ use Rattle.hoa_written.specs.Writing.{mostBytes}
 use Rattle.job_text.specs.Asked.{jobTable}
 use Rattle.answer_text.specs.Printed.{refusedText}
 
--- "the HOA text out, or the six lines of the refusal": of rows 1 to 7, the only ones that a job can come to
+-- "the HOA text out, or the lines of the refusal": of rows 1 to 7, the only ones that a job can come to
 abbrev pub writtenFor : Finding → List ℕ → List ℕ
 writtenFor Sound written = written
 writtenFor (Refused number place) written = refusedText number place

@@ -12,13 +12,13 @@ ghost use Rattle.hoa_text.specs.Turned.{Stands, Turned};
 // No text that is written is longer: 256 states, 512 edges, 32 marks.
 pub const MOST_WRITTEN: usize = 52205;
 
-// Prints a refusal's six lines in place of the text.
+// Prints a refusal's lines in place of the text.
 fn tell_refused(number: u32, place: u32, out: &mut [u8; MOST_WRITTEN]) -> usize
     ensures { λ r. ⌜ Stands (refusedText number place) (now (out .exit)) r ⌝ }
 {
     match print_refused(number, place, out) {
         Printed::Text { length } => length,
-        // never: six lines fit
+        // never: its lines fit
         Printed::Refused {
             number: _,
             place: _,

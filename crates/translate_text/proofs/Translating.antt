@@ -42,7 +42,7 @@ use Rattle.translate_text.specs.inner.{writtenTable}
 
 -- ---- what is printed
 
--- the six lines stand in the output
+-- its lines stand in the output
 pub told-stands : {text out out' : List ℕ} {r : Printed} {size : ℕ} → length out ≡ mostBytes → length text ≤ length out → Prints text out out' r
     → r ≡ printed.Text size → Stands mostBytes text out' size
 told-stands wide fits P e = let all = printed-all fits P e in record { all = all .0; cells = all .1 ∙ rw wide }

@@ -25,7 +25,7 @@ cause t k =
     (cond (large (translated t k .states) (translated t k .edges)) (Refused 10 0)
     (cond (tooLarge (translated t k)) (Refused 23 0) Sound))
 
--- the text, or "the six lines of the refusal"
+-- the text, or "the lines of the refusal"
 abbrev pub toldOr : Finding → List ℕ → List ℕ
 toldOr Sound text = text
 toldOr (Refused number place) text = refusedText number place

@@ -23,13 +23,13 @@ pub const MOST_WRITTEN: usize = 11336;
 // What the translation is lent: enough for every table that is not too large to be made.
 const MOST_MADE: usize = 32768;
 
-// Prints a refusal's six lines in place of the text.
+// Prints a refusal's lines in place of the text.
 fn tell_refused(number: u32, place: u32, out: &mut [u8; MOST_WRITTEN]) -> usize
     ensures { λ r. ⌜ Stands mostBytes (refusedText number place) (now (out .exit)) r ⌝ }
 {
     match print_refused(number, place, out) {
         Printed::Text { length } => length,
-        // never: six lines fit
+        // never: its lines fit
         Printed::Refused {
             number: _,
             place: _,

@@ -79,6 +79,9 @@ fn table(judge: &dyn Judge, seed: u64, number: u64, tally: &mut Tally) -> Result
         .map_err(|fault| Failure::new(&format!("{what}, THE PLAIN JUDGE"), fault, &case, None))?;
     let answer =
         harness::check_judge(judge, &case, expected, &mut random).map_err(|fault| Failure::new(&what, fault, &case, None))?;
+    if let (Expected::Empty, Condition::Streett { .. }) = (expected, &case.condition) {
+        tally.count(format!("depth {}", answer.depth));
+    }
     if let Expected::Run { pair } = expected {
         if shortest::is_small(&case, pair) {
             let reported = answer.prefix_length as u64 + answer.cycle_length as u64;

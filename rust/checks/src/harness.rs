@@ -2,6 +2,7 @@
 
 use crate::acceptance;
 use crate::case::{Case, Edge};
+use crate::erasing;
 use crate::judges::Judge;
 use crate::lent::{JudgeLoan, Lent, TranslationLoan};
 use crate::oracle::{self, Expected};
@@ -24,6 +25,8 @@ pub enum Promise {
     Place,
     /// The pair is the lowest that some lasso meets, and this lasso meets it.
     Pair,
+    /// The depth of an empty Streett verdict is the number of rounds in which the whole table is erased.
+    Depth,
     /// A field without a meaning is 0.
     Fields,
     /// The prefix has at most n-1 edges, the cycle 1 to (r+1)·n.
@@ -85,16 +88,20 @@ pub fn check_judge(judge: &dyn Judge, case: &Case, expected: Expected, random: &
     match expected {
         Expected::Refused { .. } => {
             check_no_run(&answer)?;
+            demand(answer.depth == 0, Promise::Fields, against)?;
             demand(loan.room.untouched(), Promise::Refusal, || "the room has changed".into())?;
             demand(loan.scratch.untouched(), Promise::Refusal, || "the scratch has changed".into())?;
         }
         Expected::Empty => {
             check_no_run(&answer)?;
+            let rounds = erasing::rounds(case);
+            demand(answer.depth == rounds, Promise::Depth, || format!("{answer:?}, expected depth {rounds}"))?;
             check_zero(loan.room.part(), 0, Promise::Room)?;
             check_zero(loan.scratch.part(), 0, Promise::Scratch)?;
         }
         Expected::Run { pair } => {
             demand(answer.pair == pair, Promise::Pair, against)?;
+            demand(answer.depth == 0, Promise::Fields, against)?;
             check_lasso(case, &answer, loan.room.part())?;
             check_zero(loan.scratch.part(), 0, Promise::Scratch)?;
         }

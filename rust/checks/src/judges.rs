@@ -62,10 +62,10 @@ impl Judge for Plain {
     fn judge(&self, case: &Case, loan: &mut JudgeLoan) -> Answer {
         let table = plain_table(&table_over(case, loan.from.part(), loan.to.part(), loan.marks.part()));
         let verdict = plain::judge(&table, &plain_condition(&case.condition), loan.room.part_mut(), loan.scratch.part_mut());
-        let none = Answer { verdict: ffi::REFUSED, number: 0, place: 0, pair: 0, prefix_length: 0, cycle_length: 0 };
+        let none = Answer { verdict: ffi::REFUSED, number: 0, place: 0, pair: 0, prefix_length: 0, cycle_length: 0, depth: 0 };
         match verdict {
             plain::Verdict::Refused { number, place } => Answer { number, place, ..none },
-            plain::Verdict::Empty => Answer { verdict: ffi::EMPTY, ..none },
+            plain::Verdict::Empty { depth } => Answer { verdict: ffi::EMPTY, depth, ..none },
             plain::Verdict::Run { prefix, cycle, pair } => {
                 Answer { verdict: ffi::RUN, pair, prefix_length: prefix, cycle_length: cycle, ..none }
             }

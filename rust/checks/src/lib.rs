@@ -13,6 +13,7 @@ pub mod acceptance;
 pub mod case;
 pub mod damage;
 pub mod drive;
+pub mod erasing;
 pub mod families;
 pub mod harness;
 pub mod job_text;

@@ -87,7 +87,7 @@ fn a_run_called_empty() {
         let run = answer.verdict == RUN;
         if run {
             loan.room.part_mut().fill(0);
-            *answer = Answer { verdict: EMPTY, number: 0, place: 0, pair: 0, prefix_length: 0, cycle_length: 0 };
+            *answer = Answer { verdict: EMPTY, number: 0, place: 0, pair: 0, prefix_length: 0, cycle_length: 0, depth: 0 };
         }
         run
     };
@@ -254,6 +254,26 @@ fn a_pair_where_there_is_none() {
         answer.verdict != RUN || !rabin
     };
     assert_answer_caught(spoil, &[Promise::Fields, Promise::Pair]);
+}
+
+#[test]
+fn another_depth() {
+    let spoil: SpoilAnswer = |case, _, answer| {
+        let told = answer.verdict == EMPTY && matches!(case.condition, Condition::Streett { .. });
+        answer.depth += told as u32;
+        told
+    };
+    assert_answer_caught(spoil, &[Promise::Depth]);
+}
+
+#[test]
+fn a_depth_where_there_is_none() {
+    let spoil: SpoilAnswer = |case, _, answer| {
+        let none = answer.verdict != EMPTY || !matches!(case.condition, Condition::Streett { .. });
+        answer.depth += none as u32;
+        none
+    };
+    assert_answer_caught(spoil, &[Promise::Fields, Promise::Depth]);
 }
 
 #[test]

@@ -76,6 +76,30 @@ fn the_fourteen_cases() {
     harness::check_one_mark(&Archive, &table_a, 2, [6, 7, 8], &mut Random::new(5)).unwrap();
 }
 
+/// How deep the erasing goes: stored numbers, beside the rounds that the harness counts.
+#[test]
+fn depths() {
+    let streett = |text: &str, pairs| case(text, Streett { pairs });
+    let nested: Vec<Edge> = (0..16).map(|i| (0, 0, 1 << (2 * i) | if i < 15 { 8 << (2 * i) } else { 0 })).collect();
+    let stored = [
+        (streett("0>0{0}", 1), 1),
+        (streett("0>1{0}, 1>0{}", 1), 1), // only lone states are left
+        (streett("0>1{0}, 1>2{0}, 2>0{0,2}", 2), 1), // two bad pairs, erased in one step
+        (streett("0>0{2}, 0>1{0,3}, 1>0{}", 2), 2),
+        (streett("0>0{0}, 0>1{}, 1>1{2}, 1>2{0,3}, 2>1{}", 2), 2), // the deepest part is not in the start's component
+        (streett("0>0{2}, 0>1{0,3}, 1>0{}, 1>2{}, 2>2{0}", 2), 2), // .. and here it is
+        (streett("0>0{2}, 0>1{0,3}, 1>0{}, 3>3{4}, 3>3{2,5}, 3>3{0,3}", 3), 2), // a deeper one that can't be reached
+        (Case::new("sixteen levels", 1, 0, nested, Streett { pairs: 16 }), 16),
+    ];
+    for (case, depth) in &stored {
+        assert_eq!(check(case, EMPTY).depth, *depth, "{case:?}");
+    }
+    // a run that is found after erasing, and other kinds
+    assert_eq!(check(&streett("0>0{}, 0>1{0}, 1>0{}", 1), RUN).depth, 0);
+    assert_eq!(check(&case("0>0{}, 0>0{0}", Buchi { marks: 2 }), EMPTY).depth, 0);
+    assert_eq!(check(&case("0>0{0}", rabin(&[0])), EMPTY).depth, 0);
+}
+
 #[test]
 fn the_printed_example() {
     check(&case("0>0{0}", rabin(&[0, 0])), Expected::Run { pair: 1 });

@@ -32,7 +32,7 @@ fn a_judge_with_room_of_its_own_says_what_the_oracle_says() {
                 assert_eq!(pair.is_some(), matches!(case.condition, Condition::Rabin { .. }));
                 Expected::Run { pair: pair.unwrap_or(0) }
             }
-            Ok(Verdict::Empty) => Expected::Empty,
+            Ok(Verdict::Empty { .. }) => Expected::Empty,
             Err(refusal) => Expected::Refused { number: refusal.cause.number(), place: refusal.place },
         };
         assert_eq!(said, oracle::by_marks_collected(&case), "{case:?}");

@@ -44,7 +44,8 @@ pub struct Table<'a> {
 #[derive(Clone, Copy, Debug, PartialEq, Eq)]
 pub enum Verdict {
     Run { prefix: u32, cycle: u32, pair: u32 },
-    Empty,
+    /// How deep the erasing went, 0 for kinds other than Streett.
+    Empty { depth: u32 },
     Refused { number: u32, place: u32 },
 }
 
@@ -55,14 +56,14 @@ pub fn judge(table: &Table, condition: &Condition, room: &mut [u32], scratch: &m
     }
     let mut work = Work::new(table, scratch);
     let verdict = match work.find(table.start, condition) {
-        Some(found) => {
+        Ok(found) => {
             let (prefix, cycle) = lasso::write(work, table.start, &found, room);
             room[prefix + cycle..].fill(0);
             Verdict::Run { prefix: prefix as u32, cycle: cycle as u32, pair: found.pair }
         }
-        None => {
+        Err(depth) => {
             room.fill(0);
-            Verdict::Empty
+            Verdict::Empty { depth }
         }
     };
     scratch.fill(0);

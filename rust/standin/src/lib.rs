@@ -12,6 +12,7 @@ pub struct Answer {
     pair: u32,
     prefix_length: u32,
     cycle_length: u32,
+    depth: u32,
 }
 
 #[repr(C)]
@@ -24,10 +25,10 @@ pub struct TranslatedTable {
 }
 
 fn answer(verdict: Verdict) -> Answer {
-    let none = Answer { verdict: 0, number: 0, place: 0, pair: 0, prefix_length: 0, cycle_length: 0 };
+    let none = Answer { verdict: 0, number: 0, place: 0, pair: 0, prefix_length: 0, cycle_length: 0, depth: 0 };
     match verdict {
         Verdict::Refused { number, place } => Answer { number, place, ..none },
-        Verdict::Empty => Answer { verdict: 1, ..none },
+        Verdict::Empty { depth } => Answer { verdict: 1, depth, ..none },
         Verdict::Run { prefix, cycle, pair } => Answer { verdict: 2, pair, prefix_length: prefix, cycle_length: cycle, ..none },
     }
 }

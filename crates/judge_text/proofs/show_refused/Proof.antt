@@ -1,4 +1,4 @@
--- `show_refused` meets its contract: a refusal's seven lines fit (`refused-fits`). Assumes nothing.
+-- `show_refused` meets its contract: a refusal's lines fit (`refused-fits`). Assumes nothing.
 use native.Mathlib.Omega.{arith}
 use borrow.Author.Needs.{needs}
 use Rattle.judge_text.proofs.Fits.{refused-fits}

@@ -1,4 +1,4 @@
--- `tell_refused` meets its contract: a refusal's seven lines fit (`refused-few`), so `print_refused` gives their length and writes them all (`told-stands`);
+-- `tell_refused` meets its contract: a refusal's lines fit (`refused-few`), so `print_refused` gives their length and writes them all (`told-stands`);
 -- the other arm is never come to (`never-refused`). Assumes nothing.
 use mathlib.Core.Path.{_≡_}
 use native.Mathlib.Omega.{arith}

@@ -101,7 +101,7 @@ fn pass_of_plain(cases: &[Case], room: &mut [u32], scratch: &mut [u32]) -> (u64,
         let (table, condition) = (plain_table(&case.table()), plain_condition(&case.condition));
         match plain::judge(black_box(&table), &condition, &mut room[..case.room], &mut scratch[..case.scratch]) {
             plain::Verdict::Run { prefix, cycle, .. } => (runs, lasso) = (runs + 1, lasso + (prefix + cycle) as u64),
-            plain::Verdict::Empty => {}
+            plain::Verdict::Empty { .. } => {}
             plain::Verdict::Refused { number, .. } => panic!("refused {number}"),
         }
     }

@@ -202,7 +202,7 @@ def written(job_text):
         job = job_vectors.read(job_text)
         refusal = job_vectors.refusal(job)
     except job_vectors.Refused as refused:
-        refusal = refused.args
+        refusal = refused.args[:2]
     if refusal is not None:
         return (REFUSAL % refusal).encode()
     text = hoa_reader.written(job)

@@ -58,7 +58,7 @@ def refusal_of(text):
     try:
         read = job_vectors.read(text)
     except job_vectors.Refused as refused:
-        return None, refused.args
+        return None, refused.args[:2]
     if read["kind"] != "buchi":
         return None, (4, 0)
     return read, job_vectors.refusal(read)

@@ -94,7 +94,7 @@ module _ (n start : ℕ) (from to marks : List ℕ) (c : Acceptance) (needs text
 same-refusal : {number place x p : ℕ} → Refused number place ≡ Refused x p → checked.Refused number place ≡ checked.Refused x p
 same-refusal {number} {place} {x} {p} q = let a : number ≡ x = cc in let b : place ≡ p = cc in rw (a, b)
 
-refused-by : (o : Outcome) (r : Reading) (answer : List ℕ) (number place : ℕ) → {column : ℕ} → r ≡ readingOf o column → r .finding ≡ Refused number place → ByJob o answer (checked.Refused number place)
+refused-by : (o : Outcome) (r : Reading) (answer : List ℕ) (number place : ℕ) → r ≡ readingOf o (r .column) → r .finding ≡ Refused number place → ByJob o answer (checked.Refused number place)
 refused-by (job j) r answer number place e f = absurd (unlike (sym f ∙ ap (λ (x : Reading). x .finding) e))
 refused-by (fault x p) r answer number place e f = same-refusal (sym f ∙ ap (λ (x : Reading). x .finding) e)
 
@@ -114,7 +114,7 @@ module _ (r : Reading) (from to marks answer : List ℕ) (x : Checked) where
         rw (part-is (λ (e : Edge). e .from) (j .edges), part-is (λ (e : Edge). e .to) (j .edges), part-is (λ (e : Edge). e .marks) (j .edges)) at
         (rw (e, f, g, h) at S)
 
-  checked-by : (o : Outcome) (b b' b'' : List ℕ) → {column : ℕ} → r ≡ readingOf o column → r .finding ≡ Sound → from ≡ cellsOf (λ e. e .from) o b
+  checked-by : (o : Outcome) (b b' b'' : List ℕ) → r ≡ readingOf o (r .column) → r .finding ≡ Sound → from ≡ cellsOf (λ e. e .from) o b
       → to ≡ cellsOf (λ e. e .to) o b' → marks ≡ cellsOf (λ e. e .marks) o b'' → Said → ByJob o answer x
   checked-by (fault number place) b b' b'' e s f g h S = absurd (unlike (sym (ap (λ (y : Reading). y .finding) e) ∙ s))
   checked-by (job j) b b' b'' e s f g h S = on-job j e f g h S

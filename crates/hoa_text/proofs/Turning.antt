@@ -79,7 +79,7 @@ module _ (j : Job) (L : Limited j) (out : List ℕ) (wide : length out ≡ mostB
 -- ---- for any text that is read
 
 -- what the reader refuses
-refused-by : (o : Outcome) (r : Reading) (number place : ℕ) → {column : ℕ} → r ≡ readingOf o column → r .finding ≡ Refused number place → turned o ≡ refusedText number place
+refused-by : (o : Outcome) (r : Reading) (number place : ℕ) → r ≡ readingOf o (r .column) → r .finding ≡ Refused number place → turned o ≡ refusedText number place
 refused-by (job j) r number place e f = absurd (unlike (sym f ∙ ap (λ (x : Reading). x .finding) e))
 refused-by (fault x p) r number place e f = same-text (sym (ap (λ (x : Reading). x .finding) e) ∙ f)
 
@@ -98,7 +98,7 @@ module _ (r : Reading) (from to marks out out' : List ℕ) (w : Written) where
         rw (part-is (λ (e : Edge). e .from) (j .edges), part-is (λ (e : Edge). e .to) (j .edges), part-is (λ (e : Edge). e .marks) (j .edges)) at
         (rw (e, f, g, h) at W)
 
-  written-by : (o : Outcome) (b b' b'' : List ℕ) → Bounded o → {column : ℕ} → r ≡ readingOf o column → r .finding ≡ Sound → from ≡ cellsOf (λ e. e .from) o b
+  written-by : (o : Outcome) (b b' b'' : List ℕ) → Bounded o → r ≡ readingOf o (r .column) → r .finding ≡ Sound → from ≡ cellsOf (λ e. e .from) o b
       → to ≡ cellsOf (λ e. e .to) o b' → marks ≡ cellsOf (λ e. e .marks) o b'' → length out ≡ mostBytes → Lent → Wrote o out' w
   written-by (fault number place) b b' b'' B e s f g h wide W = absurd (unlike (sym (ap (λ (x : Reading). x .finding) e) ∙ s))
   written-by (job j) b b' b'' B e s f g h wide W = wrote j B out wide (on-job j e f g h W)

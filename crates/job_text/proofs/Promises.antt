@@ -5,13 +5,20 @@ use mathlib.Core.Bool.{Bool, true, false}
 use mathlib.Core.List.{List, [], _∷_, _++_}
 use Prim.Native.Nat.{ℕ}
 use lib.Dec.{ltb}
-use lib.ListN.{length}
+use lib.ListN.{length, take, drop, take-append-drop}
 use Rattle.job_values.specs.Column.{RightLine}
+use Rattle.job_values.proofs.Spoken.{same-is}
 use Rattle.job_values.proofs.Columns.{first-wrong-once}
 use Rattle.job_text.specs.declared.reader.Reading.{Reading}
-use Rattle.job_text.specs.Text.{newline, Lines, lines}
+use Rattle.job_text.specs.Text.{newline, Lines, lines, begins}
 use Rattle.job_text.specs.Job.{mostBytes, Cause, absent, unformed, large, Found, found, refused, jobLines, readJob, ColumnOf, ColumnIn, ColumnIf, Column}
 use Rattle.job_text.specs.Reading.{readingOf, Read}
+
+-- ---- the line that `Column` speaks of
+
+-- a line that has its key is the key and the value behind it
+pub line-whole : (key l : List ℕ) → begins key l ≡ true → l ≡ key ++ drop (length key) l
+line-whole key l e = sym (take-append-drop (length key) l) ∙ ap (λ (z : List ℕ). z ++ drop (length key) l) (same-is (take (length key) l) key e)
 
 -- ---- one result for one input
 

@@ -89,22 +89,6 @@ left-cut bs at e l f =
     let q : e ≡ length bs = omega (arith, f .high l) in
     rw (le-leb at (length bs) l, lt-leb (e + 1) (length bs) (omega arith), q) (field-last bs at e f l k))
 
--- after the first comma, at i, and up to the next search's end j
-module _ (xs : List ℕ) (i j : ℕ) (first : FirstAt xs 0 comma i) (within : i < length xs) (next : FirstAt xs (i + 1) comma j) where
-  pub two-fields : length xs ≤ j → fields xs ≡ part 0 i xs ∷ (part (i + 1) (length xs) xs ∷ [])
-  two-fields l = field-at xs 0 i first within ∙ rw (field-last xs (i + 1) j next (omega arith) l)
-
-  more-fields : j < length xs → fields xs ≡ part 0 i xs ∷ (part (i + 1) j xs ∷ fields (drop (j + 1) xs))
-  more-fields l = field-at xs 0 i first within ∙ rw (field-at xs (i + 1) j next l)
-
-  module _ (k : ℕ) (last : FirstAt xs (j + 1) comma k) (l : j < length xs) where
-    pub three-fields : length xs ≤ k → fields xs ≡ part 0 i xs ∷ (part (i + 1) j xs ∷ (part (j + 1) (length xs) xs ∷ []))
-    three-fields h = more-fields l ∙ rw (field-last xs (j + 1) k last (omega arith) h)
-
-    pub four-fields : k < length xs
-        → fields xs ≡ part 0 i xs ∷ (part (i + 1) j xs ∷ (part (j + 1) k xs ∷ fields (drop (k + 1) xs)))
-    four-fields h = more-fields l ∙ rw (field-at xs (j + 1) k last h)
-
 cons-nil : {A : Type 0} {x : A} {xs : List A} → x ∷ xs ≡ [] → ⊥
 cons-nil e = let z : _≡_ {A = ℕ} 0 1 = cc in omega arith
 

@@ -29,7 +29,7 @@ use Rattle.judge_text.proofs.Fits.{answer-fits}
 
 -- ---- what the reader refuses
 
-refused-by : (o : Outcome) (r : Reading) (number place : ℕ) → {column : ℕ} → r ≡ readingOf o column → r .finding ≡ Refused number place → ReplyTo o (refusedText number place)
+refused-by : (o : Outcome) (r : Reading) (number place : ℕ) → r ≡ readingOf o (r .column) → r .finding ≡ Refused number place → ReplyTo o (refusedText number place)
 refused-by (job j) r number place e f = absurd (unlike (sym f ∙ ap (λ (x : Reading). x .finding) e))
 refused-by (fault x p) r number place e f = same-text (sym f ∙ ap (λ (x : Reading). x .finding) e)
 
@@ -84,7 +84,7 @@ module _ (r : Reading) (from to marks out : List ℕ) (size : ℕ) where
         rw (part-is (λ (e : Edge). e .from) (j .edges), part-is (λ (e : Edge). e .to) (j .edges), part-is (λ (e : Edge). e .marks) (j .edges)) at
         (rw (e, f, g, h) at G)
 
-  judged-by : (o : Outcome) (b b' b'' : List ℕ) → Bounded o → {column : ℕ} → r ≡ readingOf o column → r .finding ≡ Sound → from ≡ cellsOf (λ e. e .from) o b
+  judged-by : (o : Outcome) (b b' b'' : List ℕ) → Bounded o → r ≡ readingOf o (r .column) → r .finding ≡ Sound → from ≡ cellsOf (λ e. e .from) o b
       → to ≡ cellsOf (λ e. e .to) o b' → marks ≡ cellsOf (λ e. e .marks) o b'' → Lent → Reply o out size
   judged-by (fault number place) b b' b'' B e s f g h G = absurd (unlike (sym (ap (λ (x : Reading). x .finding) e) ∙ s))
   judged-by (job j) b b' b'' B e s f g h G =
@@ -96,14 +96,14 @@ module _ {text b b' b'' from to marks : List ℕ} {r : Reading} (R : Read text b
   pub states-few : r .states ≤ mostJobStates
   states-few = by (readJob text) (read-bounded text) (R .reading)
     where
-      by : (o : Outcome) → Bounded o → {column : ℕ} → r ≡ readingOf o column → r .states ≤ mostJobStates
+      by : (o : Outcome) → Bounded o → r ≡ readingOf o (r .column) → r .states ≤ mostJobStates
       by (job j) B e = omega (arith, B .states, ap (λ (x : Reading). x .states) e)
       by (fault number place) B e = omega (arith, ap (λ (x : Reading). x .states) e)
 
   pub edges-few : length (take (r .edges - 0) (drop 0 from)) ≤ mostJobEdges
   edges-few = omega (arith, length-take (r .edges - 0) from, by (readJob text) (read-bounded text) (R .reading))
     where
-      by : (o : Outcome) → Bounded o → {column : ℕ} → r ≡ readingOf o column → r .edges ≤ mostJobEdges
+      by : (o : Outcome) → Bounded o → r ≡ readingOf o (r .column) → r .edges ≤ mostJobEdges
       by (job j) B e = omega (arith, B .edges, ap (λ (x : Reading). x .edges) e)
       by (fault number place) B e = omega (arith, ap (λ (x : Reading). x .edges) e)
 

@@ -174,12 +174,12 @@ module _ (n start : ℕ) (from to marks : List ℕ) (k : ℕ) (l a b : List ℕ)
 -- ---- for any text that is read
 
 -- what the reader refuses
-refused-by : (o : Text) (r : Reading) (number place : ℕ) → {column : ℕ} → r ≡ readingOf o column → r .finding ≡ Refused number place → turned o ≡ refusedText number place
+refused-by : (o : Text) (r : Reading) (number place : ℕ) → r ≡ readingOf o (r .column) → r .finding ≡ Refused number place → turned o ≡ refusedText number place
 refused-by (job j) r number place e f = absurd (unlike (sym f ∙ ap (λ (x : Reading). x .finding) e))
 refused-by (fault x p) r number place e f = same-text (sym (ap (λ (x : Reading). x .finding) e) ∙ f)
 
 -- what it reads, by the parts of the tables that hold edges
-read-by : (o : Text) (r : Reading) (b b' b'' from to marks : List ℕ) → {column : ℕ} → r ≡ readingOf o column → r .finding ≡ Sound → from ≡ cellsOf (λ e. e .from) o b
+read-by : (o : Text) (r : Reading) (b b' b'' from to marks : List ℕ) → r ≡ readingOf o (r .column) → r .finding ≡ Sound → from ≡ cellsOf (λ e. e .from) o b
     → to ≡ cellsOf (λ e. e .to) o b' → marks ≡ cellsOf (λ e. e .marks) o b''
     → turned o ≡ turnedBy (r .condition) (lent (r .states) (r .start) (take (r .edges - 0) (drop 0 from)) (take (r .edges - 0) (drop 0 to)) (take (r .edges - 0) (drop 0 marks)))
 read-by (fault number place) r b b' b'' from to marks e s f g h = absurd (unlike (sym (ap (λ (x : Reading). x .finding) e) ∙ s))

@@ -55,7 +55,7 @@ def no_answer(name, done, words):
 
 
 def answered(name, done, status, first_line):
-    check(name, done.returncode == status and (done.stdout or b"").startswith(first_line + b"\n") and (done.stdout or b"").count(b"\n") == 6, *seen(done))
+    check(name, done.returncode == status and (done.stdout or b"").startswith(first_line + b"\n") and (done.stdout or b"").count(b"\n") == 8, *seen(done))
 
 
 def quickest(start):

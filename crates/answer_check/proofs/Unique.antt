@@ -16,6 +16,7 @@ use Rattle.table.specs.Table.{Table, waiting, Edge, Stop, Step, Walk, Lasso, ma
 use Rattle.table.specs.Condition.{MeetsPair, Accepts, Accepted}
 use Rattle.job_text.specs.Job.{Job, Outcome, job, fault as faulty, readJob}
 use Rattle.job_text.specs.Asked.{jobTable, firstCause}
+use Rattle.job_text.proofs.Promises.{one-column}
 use Rattle.answer_check.specs.declared.Checked.{Checked}
 use Rattle.answer_check.specs.declared.Checked.the-variants as checked
 use Rattle.answer_check.specs.declared.Fault.the-variants as fault
@@ -107,32 +108,32 @@ module _ (t : Table) (c : Acceptance) (needs : List ℕ) (pair : ℕ) (prefix cy
   one-judged checked.Accepted (checked.Rejected fault.Empty k) p q = absurd (empty-not k q (p .lasso .turns))
   one-judged checked.Accepted (checked.Rejected fault.Cycle k) p q = absurd (cycle-not k q (p .lasso))
   one-judged checked.Accepted (checked.Rejected fault.Condition k) p q = absurd (q .unmet (p .met))
-  one-judged checked.Accepted (checked.Refused n m) p q = absurd q
+  one-judged checked.Accepted (checked.Refused n m k) p q = absurd q
   one-judged (checked.Rejected fault.Prefix i) checked.Accepted p q = absurd (prefix-not i p (q .lasso .knot) (q .lasso .leads))
   one-judged (checked.Rejected fault.Prefix i) (checked.Rejected fault.Prefix k) p q = ap (checked.Rejected fault.Prefix) (one-break t (t .start) prefix i k p q)
   one-judged (checked.Rejected fault.Prefix i) (checked.Rejected fault.Empty k) p q = absurd (prefix-not i p (q .knot) (q .leads))
   one-judged (checked.Rejected fault.Prefix i) (checked.Rejected fault.Cycle k) p q = absurd (prefix-not i p (q .knot) (q .leads))
   one-judged (checked.Rejected fault.Prefix i) (checked.Rejected fault.Condition k) p q = absurd (prefix-not i p (q .lasso .knot) (q .lasso .leads))
-  one-judged (checked.Rejected fault.Prefix i) (checked.Refused n m) p q = absurd q
+  one-judged (checked.Rejected fault.Prefix i) (checked.Refused n m k) p q = absurd q
   one-judged (checked.Rejected fault.Empty i) checked.Accepted p q = absurd (empty-not i p (q .lasso .turns))
   one-judged (checked.Rejected fault.Empty i) (checked.Rejected fault.Prefix k) p q = absurd (prefix-not k q (p .knot) (p .leads))
   one-judged (checked.Rejected fault.Empty i) (checked.Rejected fault.Empty k) p q = ap (checked.Rejected fault.Empty) (p .position ∙ sym (q .position))
   one-judged (checked.Rejected fault.Empty i) (checked.Rejected fault.Cycle k) p q = absurd (empty-not i p (q .some))
   one-judged (checked.Rejected fault.Empty i) (checked.Rejected fault.Condition k) p q = absurd (empty-not i p (q .lasso .turns))
-  one-judged (checked.Rejected fault.Empty i) (checked.Refused n m) p q = absurd q
+  one-judged (checked.Rejected fault.Empty i) (checked.Refused n m k) p q = absurd q
   one-judged (checked.Rejected fault.Cycle i) checked.Accepted p q = absurd (cycle-not i p (q .lasso))
   one-judged (checked.Rejected fault.Cycle i) (checked.Rejected fault.Prefix k) p q = absurd (prefix-not k q (p .knot) (p .leads))
   one-judged (checked.Rejected fault.Cycle i) (checked.Rejected fault.Empty k) p q = absurd (empty-not k q (p .some))
   one-judged (checked.Rejected fault.Cycle i) (checked.Rejected fault.Cycle k) p q = ap (checked.Rejected fault.Cycle) (one-bad-cycle i k p q)
   one-judged (checked.Rejected fault.Cycle i) (checked.Rejected fault.Condition k) p q = absurd (cycle-not i p (q .lasso))
-  one-judged (checked.Rejected fault.Cycle i) (checked.Refused n m) p q = absurd q
+  one-judged (checked.Rejected fault.Cycle i) (checked.Refused n m k) p q = absurd q
   one-judged (checked.Rejected fault.Condition i) checked.Accepted p q = absurd (p .unmet (q .met))
   one-judged (checked.Rejected fault.Condition i) (checked.Rejected fault.Prefix k) p q = absurd (prefix-not k q (p .lasso .knot) (p .lasso .leads))
   one-judged (checked.Rejected fault.Condition i) (checked.Rejected fault.Empty k) p q = absurd (empty-not k q (p .lasso .turns))
   one-judged (checked.Rejected fault.Condition i) (checked.Rejected fault.Cycle k) p q = absurd (cycle-not k q (p .lasso))
   one-judged (checked.Rejected fault.Condition i) (checked.Rejected fault.Condition k) p q = ap (checked.Rejected fault.Condition) (p .position ∙ sym (q .position))
-  one-judged (checked.Rejected fault.Condition i) (checked.Refused n m) p q = absurd q
-  one-judged (checked.Refused n m) b p q = absurd p
+  one-judged (checked.Rejected fault.Condition i) (checked.Refused n m k) p q = absurd q
+  one-judged (checked.Refused n m k) b p q = absurd p
 
 -- ---- one result for two texts
 
@@ -162,17 +163,18 @@ by-cause-once : (f : Finding) (t : Table) (c : Acceptance) (needs text : List �
 by-cause-once (Refused number place) t c needs text a b p q = p ∙ sym q
 by-cause-once Sound t c needs text a b p q = one-told t c needs text a b p q
 
-by-job-once : (o : Outcome) (answer : List ℕ) (a b : Checked) → ByJob o answer a → ByJob o answer b → a ≡ b
-by-job-once (faulty number place) answer a b p q = p ∙ sym q
-by-job-once (job j) answer a b p q = by-cause-once (firstCause (job j)) (jobTable j) (j .condition) (j .needs) answer a b p q
+by-job-once : (text : List ℕ) (o : Outcome) (answer : List ℕ) (a b : Checked) → ByJob text o answer a → ByJob text o answer b → a ≡ b
+by-job-once text (faulty number place) answer a b p q =
+    p .told ∙ ap (checked.Refused number place) (one-column text (p .column) (q .column) (p .first) (q .first)) ∙ sym (q .told)
+by-job-once text (job j) answer a b p q = by-cause-once (firstCause (job j)) (jobTable j) (j .condition) (j .needs) answer a b p q
 
 -- two results for a job text and an answer text are equal
 pub checks-once : (text answer : List ℕ) (a b : Checked) → Checks text answer a → Checks text answer b → a ≡ b
-checks-once text answer a b p q = by-job-once (readJob text) answer a b p q
+checks-once text answer a b p q = by-job-once text (readJob text) answer a b p q
 
 -- ---- accepted exactly if the text names an accepted lasso of the job's table
 
-not-accepted : {number place : ℕ} {C : Type 0} → checked.Refused number place ≡ checked.Accepted → C
+not-accepted : {number place column : ℕ} {C : Type 0} → checked.Refused number place column ≡ checked.Accepted → C
 not-accepted e = let z : _≡_ {A = ℕ} 0 1 = cc in absurd (omega arith)
 
 meets-accepts : (c : Acceptance) (needs : List ℕ) (M pair : ℕ) → Meets c needs M pair → Accepts c needs M
@@ -204,8 +206,8 @@ cause-accepted : (j : Job) (text answer : List ℕ) (r : Checked) → readJob te
 cause-accepted j text answer r o e Sound s T = told-accepted j text answer r o s e T
 cause-accepted j text answer r o e (Refused number place) s T = not-accepted (sym T ∙ e)
 
-job-accepted : (text answer : List ℕ) (r : Checked) → r ≡ checked.Accepted → (o : Outcome) → readJob text ≡ o → ByJob o answer r → NamesAccepted text answer
-job-accepted text answer r e (faulty number place) q T = not-accepted (sym T ∙ e)
+job-accepted : (text answer : List ℕ) (r : Checked) → r ≡ checked.Accepted → (o : Outcome) → readJob text ≡ o → ByJob text o answer r → NamesAccepted text answer
+job-accepted text answer r e (faulty number place) q T = not-accepted (sym (T .told) ∙ e)
 job-accepted text answer r e (job j) q T = cause-accepted j text answer r q e (firstCause (job j)) refl T
 
 -- a text that names one is accepted
@@ -214,9 +216,9 @@ accepted-so text answer N =
     let j = N .asked in
     let told : Told (jobTable j) (j .condition) (j .needs) answer checked.Accepted =
     run-judged (record { pair = N .pair; prefix = N .prefix; cycle = N .cycle; says = N .says; judged = record { lasso = N .accepted .lasso; met = N .met } }) in
-    let caused : ByJob (job j) answer checked.Accepted =
+    let caused : ByJob text (job j) answer checked.Accepted =
     subst (λ (f : Finding). ByCause f (jobTable j) (j .condition) (j .needs) answer checked.Accepted) (sym (N .sound)) told in
-    subst (λ (o : Outcome). ByJob o answer checked.Accepted) (sym (N .read)) caused
+    subst (λ (o : Outcome). ByJob text o answer checked.Accepted) (sym (N .read)) caused
 
 pub accepted-exactly : (text answer : List ℕ) (r : Checked) → Checks text answer r → (r ≡ checked.Accepted) ↔ NamesAccepted text answer
 accepted-exactly text answer r T =

@@ -7,7 +7,7 @@ use Rattle.table.specs.declared.Finding.{Finding}
 use Rattle.table.specs.declared.Finding.the-variants.{Sound, Refused}
 use Rattle.table.specs.Table.{Table, marksOf}
 use Rattle.table.specs.Condition.{Accepted}
-use Rattle.job_text.specs.Job.{Job, Outcome, job, fault, readJob}
+use Rattle.job_text.specs.Job.{Job, Outcome, job, fault, readJob, Column}
 use Rattle.job_text.specs.Asked.{jobTable, firstCause}
 use Rattle.answer_check.specs.declared.Checked.{Checked}
 use Rattle.answer_check.specs.declared.Checked.the-variants as checked
@@ -22,24 +22,30 @@ pub record RunJudged (t : Table) (c : Acceptance) (needs text : List ℕ) (r : C
   pub says : Says c text (run pair prefix cycle)
   pub judged : Judged t c needs pair prefix cycle r
 
--- "then 50, then 51; place 0", and then the run
+-- "then 50, then 51; place 0, column 0", and then the run
 pub data Told (t : Table) (c : Acceptance) (needs text : List ℕ) (r : Checked) : Type 0 where
-  malformed : Malformed c text → r ≡ checked.Refused 50 0 → Told t c needs text r
-  no-run : NoRun c text → r ≡ checked.Refused 51 0 → Told t c needs text r
+  malformed : Malformed c text → r ≡ checked.Refused 50 0 0 → Told t c needs text r
+  no-run : NoRun c text → r ≡ checked.Refused 51 0 0 → Told t c needs text r
   run-judged : RunJudged t c needs text r → Told t c needs text r
 
--- "the job's own first (20 to 23, then rows 1 to 7)"
+-- "the job's own first (20 to 23, then rows 1 to 7)"; rows 1 to 7 with column 0
 abbrev pub ByCause : Finding → Table → Acceptance → List ℕ → List ℕ → Checked → Type 0
-ByCause (Refused number place) t c needs text r = r ≡ checked.Refused number place
+ByCause (Refused number place) t c needs text r = r ≡ checked.Refused number place 0
 ByCause Sound t c needs text r = Told t c needs text r
 
-abbrev pub ByJob : Outcome → List ℕ → Checked → Type 0
-ByJob (fault number place) text r = r ≡ checked.Refused number place
-ByJob (job j) text r = ByCause (firstCause (job j)) (jobTable j) (j .condition) (j .needs) text r
+-- a job text at fault: number and place of its first fault, and the column of that
+pub record TextRefused (text : List ℕ) (number place : ℕ) (r : Checked) : Type 0 where
+  pub column : ℕ
+  pub first : Column text column
+  pub told : r ≡ checked.Refused number place column
+
+abbrev pub ByJob : List ℕ → Outcome → List ℕ → Checked → Type 0
+ByJob text (fault number place) answer r = TextRefused text number place r
+ByJob text (job j) answer r = ByCause (firstCause (job j)) (jobTable j) (j .condition) (j .needs) answer r
 
 -- the whole promise, for every job text and every answer text
 abbrev pub Checks : List ℕ → List ℕ → Checked → Type 0
-Checks text answer r = ByJob (readJob text) answer r
+Checks text answer r = ByJob text (readJob text) answer r
 
 -- the answer text names an accepted lasso of the job's table, for Rabin with the named pair met: with these it is accepted, and with no others
 -- (`Unique.accepted-exactly`, in proofs/)

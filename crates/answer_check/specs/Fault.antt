@@ -65,4 +65,4 @@ Judged t c needs pair prefix cycle (Rejected Prefix i) = Breaks t (t .start) pre
 Judged t c needs pair prefix cycle (Rejected Empty i) = NoCycle t prefix cycle i
 Judged t c needs pair prefix cycle (Rejected Cycle i) = BadCycle t prefix cycle i
 Judged t c needs pair prefix cycle (Rejected Condition i) = Unmet t c needs pair prefix cycle i
-Judged t c needs pair prefix cycle (Refused number place) = ⊥
+Judged t c needs pair prefix cycle (Refused number place column) = ⊥

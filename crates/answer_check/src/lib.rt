@@ -32,11 +32,18 @@ pub enum Fault {
     Condition,
 }
 
-// What checking gives: the answer is accepted; or its first fault, with its position; or number and place of a refusal.
+// What checking gives: the answer is accepted; or its first fault, with its position; or number, place and column of a refusal.
 pub enum Checked {
     Accepted,
-    Rejected { fault: Fault, position: usize },
-    Refused { number: u32, place: u32 },
+    Rejected {
+        fault: Fault,
+        position: usize,
+    },
+    Refused {
+        number: u32,
+        place: u32,
+        column: u32,
+    },
 }
 
 // What becomes of a run, by its lasso and the condition.
@@ -76,10 +83,12 @@ fn check_sound(
         Form::Malformed => Checked::Refused {
             number: 50,
             place: 0,
+            column: 0,
         },
         Form::NoRun => Checked::Refused {
             number: 51,
             place: 0,
+            column: 0,
         },
         Form::Run {
             pair,
@@ -115,7 +124,11 @@ fn check_table(
     ensures { λ r. ⌜ ByCause (refusal (lent states start (now (from .entry)) (now (to .entry)) (now (marks .entry))) condition needs) (lent states start (now (from .entry)) (now (to .entry)) (now (marks .entry))) condition needs (now (answer .entry)) r ⌝ }
 {
     match table::check(states, start, from, to, marks, condition, needs) {
-        Finding::Refused { number, place } => Checked::Refused { number, place },
+        Finding::Refused { number, place } => Checked::Refused {
+            number,
+            place,
+            column: 0,
+        },
         Finding::Sound => check_sound(answer, start, from, to, marks, condition, needs),
     }
 }
@@ -131,7 +144,11 @@ pub fn check_answer(job: &[u8], answer: &[u8]) -> Checked
     let read = read(job, &mut from, &mut to, &mut marks);
     let finding = read.finding;
     if let Finding::Refused { number, place } = finding {
-        return Checked::Refused { number, place };
+        return Checked::Refused {
+            number,
+            place,
+            column: read.column,
+        };
     }
     let m = read.edges as usize;
     let condition = read.condition;

@@ -22,7 +22,7 @@ use Rattle.answer_text.specs.Printed.{stop}
 use Rattle.answer_form.specs.declared.Value.{Value}
 use Rattle.answer_form.specs.declared.RunValues.{RunValues}
 use Rattle.answer_form.specs.Form.{Said, refused, empty}
-use Rattle.answer_form.specs.Given.{startsWith, Cut, valueThen, Ordered, cutGiven, ValueAt, step, steps, listGiven, isSome, pairGiven, thenPrefix, thenCycle, thenPlace, refusedTail, emptyTail, over, RunText, runText, valuesGiven, ValuesAt, refusedGiven, emptyGiven}
+use Rattle.answer_form.specs.Given.{startsWith, Cut, valueThen, Ordered, cutGiven, ValueAt, step, steps, listGiven, isSome, pairGiven, thenPrefix, thenCycle, thenPlace, thenColumn, refusedTail, emptyTail, over, RunText, runText, valuesGiven, ValuesAt, Where, whereGiven, refusedGiven, emptyGiven}
 use Rattle.answer_form.proofs.Digits.{some-same}
 use Rattle.answer_form.proofs.Lists.{same-is}
 
@@ -75,7 +75,7 @@ then-some : {A B : Type 0} (o : Option A) (g : A → B) → isSome (andThen o (�
 then-some none g = refl
 then-some (some a) g = refl
 
-some-then : (o p : Option ℕ) (g : ℕ → ℕ → Said) → isSome o ≡ true → isSome (andThen o (λ n. andThen p (λ m. some (g n m)))) ≡ isSome p
+some-then : {A B : Type 0} (o : Option ℕ) (p : Option A) (g : ℕ → A → B) → isSome o ≡ true → isSome (andThen o (λ n. andThen p (λ m. some (g n m)))) ≡ isSome p
 some-then none p g e = absurd (false≢true e)
 some-then (some n) p g e = then-some p (g n)
 
@@ -140,34 +140,52 @@ module _ (text : List ℕ) (at : ℕ) (a : Value) (A : ValueAt text at thenPrefi
               cycle = λ q. D .there g;
             }
 
--- ---- a refusal's values
+-- ---- a refusal's place and column
+
+module _ (text : List ℕ) (at : ℕ) (a : Value) (A : ValueAt text at thenColumn a) where
+  pub no-place : a .found ≡ false → isSome (whereGiven (drop at text)) ≡ false
+  unfolding whereGiven
+  no-place e = rw (no-value text thenColumn at a A e)
+
+  module _ (e : a .found ≡ true) (b : Value) (B : ValueAt text (a .next) refusedTail b) where
+    pub no-column : b .found ≡ false → isSome (whereGiven (drop at text)) ≡ false
+    unfolding whereGiven
+    no-column f = rw (some-value text thenColumn at a A e, no-value text refusedTail (a .next) b B f)
+
+    module _ (f : b .found ≡ true) where
+      pub where-behind : (b .next ≡ length text → ⊥) → isSome (whereGiven (drop at text)) ≡ false
+      unfolding whereGiven
+      where-behind h = rw (some-value text thenColumn at a A e, some-value text refusedTail (a .next) b B f, unended text (b .next) (B .next-there f) h)
+
+      module _ (h : b .next ≡ length text) where
+        pub wrong-place : isSome (number (part at (a .end) text)) ≡ false → isSome (whereGiven (drop at text)) ≡ false
+        unfolding whereGiven
+        wrong-place n =
+            rw (some-value text thenColumn at a A e, some-value text refusedTail (a .next) b B f, ended text (b .next) h) (none-then (number (part at (a .end) text)) _ n)
+
+        pub right-place : isSome (number (part at (a .end) text)) ≡ true → isSome (whereGiven (drop at text)) ≡ isSome (number (part (a .next) (b .end) text))
+        unfolding whereGiven
+        right-place n =
+            rw (some-value text thenColumn at a A e, some-value text refusedTail (a .next) b B f, ended text (b .next) h)
+            (some-then (number (part at (a .end) text)) (number (part (a .next) (b .end) text)) (λ place column. record { place = place; column = column }) n)
+
+-- ---- a refusal's number
 
 module _ (text : List ℕ) (at : ℕ) (a : Value) (A : ValueAt text at thenPlace a) where
   pub no-number : a .found ≡ false → isSome (refusedGiven (drop at text)) ≡ false
   unfolding refusedGiven
   no-number e = rw (no-value text thenPlace at a A e)
 
-  module _ (e : a .found ≡ true) (b : Value) (B : ValueAt text (a .next) refusedTail b) where
-    pub no-place : b .found ≡ false → isSome (refusedGiven (drop at text)) ≡ false
+  module _ (e : a .found ≡ true) where
+    pub wrong-number : isSome (number (part at (a .end) text)) ≡ false → isSome (refusedGiven (drop at text)) ≡ false
     unfolding refusedGiven
-    no-place f = rw (some-value text thenPlace at a A e, no-value text refusedTail (a .next) b B f)
+    wrong-number n = rw (some-value text thenPlace at a A e) (none-then (number (part at (a .end) text)) _ n)
 
-    module _ (f : b .found ≡ true) where
-      pub refusal-behind : (b .next ≡ length text → ⊥) → isSome (refusedGiven (drop at text)) ≡ false
-      unfolding refusedGiven
-      refusal-behind h = rw (some-value text thenPlace at a A e, some-value text refusedTail (a .next) b B f, unended text (b .next) (B .next-there f) h)
-
-      module _ (h : b .next ≡ length text) where
-        pub wrong-number : isSome (number (part at (a .end) text)) ≡ false → isSome (refusedGiven (drop at text)) ≡ false
-        unfolding refusedGiven
-        wrong-number n =
-            rw (some-value text thenPlace at a A e, some-value text refusedTail (a .next) b B f, ended text (b .next) h) (none-then (number (part at (a .end) text)) _ n)
-
-        pub right-number : isSome (number (part at (a .end) text)) ≡ true → isSome (refusedGiven (drop at text)) ≡ isSome (number (part (a .next) (b .end) text))
-        unfolding refusedGiven
-        right-number n =
-            rw (some-value text thenPlace at a A e, some-value text refusedTail (a .next) b B f, ended text (b .next) h)
-            (some-then (number (part at (a .end) text)) (number (part (a .next) (b .end) text)) refused n)
+    pub right-number : isSome (number (part at (a .end) text)) ≡ true → isSome (refusedGiven (drop at text)) ≡ isSome (whereGiven (drop (a .next) text))
+    unfolding refusedGiven
+    right-number n =
+        rw (some-value text thenPlace at a A e)
+        (some-then (number (part at (a .end) text)) (whereGiven (drop (a .next) text)) (λ n w. refused n (w .place) (w .column)) n)
 
 -- ---- an empty verdict's depth
 

@@ -16,9 +16,9 @@ use Rattle.puts.specs.Put.{decimalIn, decimal}
 use Rattle.job_text.specs.Text.{newline, same, ahead}
 use Rattle.job_text.specs.Value.{andThen, dash, mostNumber, number}
 use Rattle.job_text.proofs.Text.{byTest}
-use Rattle.answer_text.specs.Printed.{shown, verdict=, code=, place=, pair=, depth=, prefix=, cycle=, verdictWord, isRabin, pairText, listText, topText, bottomText, answerText}
-use Rattle.answer_form.specs.Form.{Said, run, empty, refused, verdictOf, depthOf, roomOf, Ours, Says, Malformed}
-use Rattle.answer_form.specs.Given.{startsWith, Cut, valueThen, listGiven, pairGiven, runHead, thenPrefix, thenCycle, refusedHead, thenPlace, refusedTail, emptyHead, emptyTail, over, RunText, runText, runOf, runGiven, refusedGiven, emptyGiven, given}
+use Rattle.answer_text.specs.Printed.{shown, verdict=, code=, place=, column=, pair=, depth=, prefix=, cycle=, verdictWord, isRabin, pairText, listText, headText, topText, bottomText, answerText}
+use Rattle.answer_form.specs.Form.{Said, run, empty, refused, verdictOf, columnOf, depthOf, roomOf, Ours, Says, Malformed}
+use Rattle.answer_form.specs.Given.{startsWith, Cut, valueThen, listGiven, pairGiven, runHead, thenPrefix, thenCycle, refusedHead, thenPlace, thenColumn, refusedTail, emptyHead, emptyTail, over, RunText, runText, runOf, runGiven, Where, whereGiven, refusedGiven, emptyGiven, given}
 use Rattle.answer_form.proofs.Digits.{none-some, some-same, After, after, passed, High, high-less, decimal-high, number-decimal, decimal-number}
 use Rattle.answer_form.proofs.Lists.{same-refl, same-is, list-read, read-list, list-high}
 
@@ -95,15 +95,19 @@ three top pt p q =
     ∙ sym (append-assoc top pair= (behindRun pt p q))
 
 run-text : (c : Acceptance) (pair : ℕ) (p q : List ℕ)
-    → answerText (verdictOf (run pair p q)) 0 c (roomOf (run pair p q)) ≡ runHead ++ behindRun (pairText (verdictOf (run pair p q)) c) (listText p) (listText q)
+    → answerText (verdictOf (run pair p q)) 0 0 c (roomOf (run pair p q)) ≡ runHead ++ behindRun (pairText (verdictOf (run pair p q)) c) (listText p) (listText q)
 unfolding answerText topText bottomText
 run-text c pair p q =
     rw (take-append-seam p q, drop-append-seam p q, take-length q)
-    (three ((shown verdict= (verdictWord (Run 0 0 0)) ++ shown code= (decimal 0)) ++ shown place= (decimal 0)) (pairText (verdictOf (run pair p q)) c) (listText p) (listText q))
+    (three (headText (Run 0 0 0) 0) (pairText (verdictOf (run pair p q)) c) (listText p) (listText q))
 
--- a refusal's text from its number on
-abbrev behindRefused : List ℕ → List ℕ → List ℕ
-behindRefused n p = n ++ (thenPlace ++ (p ++ (refusedTail ++ [])))
+-- a refusal's text from its place on ..
+abbrev behindPlace : List ℕ → List ℕ → List ℕ
+behindPlace p k = p ++ (thenColumn ++ (k ++ (refusedTail ++ [])))
+
+-- .. and from its number on
+abbrev behindRefused : List ℕ → List ℕ → List ℕ → List ℕ
+behindRefused n p k = n ++ (thenPlace ++ behindPlace p k)
 
 two : (v n p last : List ℕ) → (((v ++ shown code= n) ++ shown place= p) ++ last) ≡ (v ++ code=) ++ (n ++ (thenPlace ++ (p ++ (newline ∷ last))))
 two v n p last =
@@ -112,22 +116,29 @@ two v n p last =
     ∙ ap (λ (l : List ℕ). v ++ l) (piece code= n (shown place= p ++ last) ∙ ap (λ (l : List ℕ). code= ++ (n ++ (newline ∷ l))) (piece place= p last))
     ∙ sym (append-assoc v code= (n ++ (thenPlace ++ (p ++ (newline ∷ last)))))
 
-refused-text : (c : Acceptance) (n p : ℕ) → answerText (Refused n p) 0 c [] ≡ refusedHead ++ behindRefused (decimal n) (decimal p)
+four : (v n p k last : List ℕ)
+    → (((v ++ shown code= n) ++ shown place= p) ++ shown column= k) ++ last ≡ (v ++ code=) ++ (n ++ (thenPlace ++ (p ++ (thenColumn ++ (k ++ (newline ∷ last))))))
+four v n p k last =
+    append-assoc ((v ++ shown code= n) ++ shown place= p) (shown column= k) last
+    ∙ two v n p (shown column= k ++ last)
+    ∙ ap (λ (l : List ℕ). (v ++ code=) ++ (n ++ (thenPlace ++ (p ++ (newline ∷ l))))) (piece column= k last)
+
+refused-text : (c : Acceptance) (n p k : ℕ) → answerText (Refused n p) k 0 c [] ≡ refusedHead ++ behindRefused (decimal n) (decimal p) (decimal k)
 unfolding answerText topText bottomText decimalIn
-refused-text c n p =
-    let top = (shown verdict= (verdictWord (Refused n p)) ++ shown code= (decimal n)) ++ shown place= (decimal p) in
+refused-text c n p k =
+    let top = headText (Refused n p) k in
     append-assoc (top ++ shown pair= dash) noDepth (shown prefix= dash ++ shown cycle= dash)
     ∙ append-assoc top (shown pair= dash) (noDepth ++ (shown prefix= dash ++ shown cycle= dash))
-    ∙ two (shown verdict= (verdictWord (Refused n p))) (decimal n) (decimal p) (shown pair= dash ++ (noDepth ++ (shown prefix= dash ++ shown cycle= dash)))
+    ∙ four (shown verdict= (verdictWord (Refused n p))) (decimal n) (decimal p) (decimal k) (shown pair= dash ++ (noDepth ++ (shown prefix= dash ++ shown cycle= dash)))
 
 -- an empty verdict's text from its depth on
 abbrev behindEmpty : List ℕ → List ℕ
 behindEmpty d = d ++ (emptyTail ++ [])
 
-empty-text : (c : Acceptance) (d : ℕ) → answerText Empty d c [] ≡ emptyHead ++ behindEmpty (decimal d)
+empty-text : (c : Acceptance) (d : ℕ) → answerText Empty 0 d c [] ≡ emptyHead ++ behindEmpty (decimal d)
 unfolding answerText topText bottomText
 empty-text c d =
-    let top = ((shown verdict= (verdictWord Empty) ++ shown code= (decimal 0)) ++ shown place= (decimal 0)) ++ shown pair= dash in
+    let top = headText Empty 0 ++ shown pair= dash in
     append-assoc top (shown depth= (decimal d)) (shown prefix= dash ++ shown cycle= dash)
     ∙ ap (λ (l : List ℕ). top ++ l) (piece depth= (decimal d) (shown prefix= dash ++ shown cycle= dash))
     ∙ sym (append-assoc top depth= (behindEmpty (decimal d)))
@@ -176,14 +187,23 @@ run-read rabin pair p q e f g =
       g,
     )
 
-refused-read : (n p : ℕ) → n ≤ mostNumber → p ≤ mostNumber → refusedGiven (behindRefused (decimal n) (decimal p)) ≡ some (refused n p)
-unfolding refusedGiven
-refused-read n p l h =
+where-read : (p k : ℕ) → p ≤ mostNumber → k ≤ mostNumber → whereGiven (behindPlace (decimal p) (decimal k)) ≡ some (record { place = p; column = k })
+unfolding whereGiven
+where-read p k l h =
     rw (
-      value-there place= (decimal n) (decimal p ++ (refusedTail ++ [])) (high-less 48 11 (omega arith) (decimal n) (decimal-high n)),
-      value-there (shown pair= dash ++ (noDepth ++ (shown prefix= dash ++ shown cycle= dash))) (decimal p) [] (high-less 48 11 (omega arith) (decimal p) (decimal-high p)),
+      value-there column= (decimal p) (decimal k ++ (refusedTail ++ [])) (high-less 48 11 (omega arith) (decimal p) (decimal-high p)),
+      value-there (shown pair= dash ++ (noDepth ++ (shown prefix= dash ++ shown cycle= dash))) (decimal k) [] (high-less 48 11 (omega arith) (decimal k) (decimal-high k)),
+      number-decimal p l,
+      number-decimal k h,
+    )
+
+refused-read : (n p k : ℕ) → n ≤ mostNumber → p ≤ mostNumber → k ≤ mostNumber → refusedGiven (behindRefused (decimal n) (decimal p) (decimal k)) ≡ some (refused n p k)
+unfolding refusedGiven
+refused-read n p k l h g =
+    rw (
+      value-there place= (decimal n) (behindPlace (decimal p) (decimal k)) (high-less 48 11 (omega arith) (decimal n) (decimal-high n)),
       number-decimal n l,
-      number-decimal p h,
+      where-read p k h g,
     )
 
 empty-read : (d : ℕ) → d ≤ mostNumber → emptyGiven (behindEmpty (decimal d)) ≡ some (empty d)
@@ -203,13 +223,14 @@ given-empty : (rabin : Bool) (rest : List ℕ) → given rabin (emptyHead ++ res
 unfolding given
 given-empty rabin rest = rw (starts-there emptyHead rest, drop-append-seam emptyHead rest)
 
-printed-read : (c : Acceptance) (s : Said) → Ours c s → given (isRabin c) (answerText (verdictOf s) (depthOf s) c (roomOf s)) ≡ some s
+printed-read : (c : Acceptance) (s : Said) → Ours c s → given (isRabin c) (answerText (verdictOf s) (columnOf s) (depthOf s) c (roomOf s)) ≡ some s
 printed-read c (run pair p q) o =
     rw (run-text c pair p q, given-run (isRabin c) (behindRun (cond (isRabin c) (decimal pair) dash) (listText p) (listText q)))
     (run-read (isRabin c) pair p q (pair-read (isRabin c) pair (o .pair-within) (o .no-pair)) (list-read p (o .prefix-within)) (list-read q (o .cycle-within)))
 printed-read c (empty d) l = rw (empty-text c d, given-empty (isRabin c) (behindEmpty (decimal d))) (empty-read d l)
-printed-read c (refused n p) o =
-    rw (refused-text c n p, given-refused (isRabin c) (behindRefused (decimal n) (decimal p))) (refused-read n p (o .number-within) (o .place-within))
+printed-read c (refused n p k) o =
+    rw (refused-text c n p k, given-refused (isRabin c) (behindRefused (decimal n) (decimal p) (decimal k)))
+    (refused-read n p k (o .number-within) (o .place-within) (o .column-within))
 
 -- what a well-formed text says is read of it
 pub says-given : (c : Acceptance) (text : List ℕ) (s : Said) → Says c text s → given (isRabin c) text ≡ some s
@@ -259,25 +280,42 @@ run-back c xs s r =
     record { prefix-within = F .1; cycle-within = G .1; pair-within = P .1 .0; no-pair = P .1 .1 } in
     rw (sym said) (record { ours = ours; prints = ap (λ (l : List ℕ). runHead ++ l) whole ∙ sym (run-text c pair (f .first) (g .first)) })
 
+where-back : (xs : List ℕ) (w : Where) → whereGiven xs ≡ some w
+    → (xs ≡ behindPlace (decimal (w .place)) (decimal (w .column))) × ((w .place ≤ mostNumber) × (w .column ≤ mostNumber))
+unfolding whereGiven
+where-back xs w r =
+    let a = after (valueThen thenColumn xs) _ w r in
+    let b = after (valueThen refusedTail (a .first .rest)) _ w (a .then) in
+    let o = over-back (b .first .rest) _ w (b .then) in
+    let e = after (number (a .first .value)) _ w (o .1) in
+    let f = after (number (b .first .value)) _ w (e .then) in
+    let said : record { place = e .first; column = f .first } ≡ w = some-same (f .then) in
+    let E = decimal-number (a .first .value) (e .first) (e .there) in
+    let F = decimal-number (b .first .value) (f .first) (f .there) in
+    let one : xs ≡ a .first .value ++ (thenColumn ++ a .first .rest) = value-back thenColumn xs (a .first) (a .there) in
+    let two : a .first .rest ≡ b .first .value ++ (refusedTail ++ b .first .rest) = value-back refusedTail (a .first .rest) (b .first) (b .there) in
+    let last : a .first .rest ≡ decimal (f .first) ++ (refusedTail ++ []) =
+    two ∙ ap (λ (l : List ℕ). l ++ (refusedTail ++ b .first .rest)) (F .0) ∙ ap (λ (l : List ℕ). decimal (f .first) ++ (refusedTail ++ l)) (o .0) in
+    let whole : xs ≡ behindPlace (decimal (e .first)) (decimal (f .first)) =
+    one ∙ ap (λ (l : List ℕ). l ++ (thenColumn ++ a .first .rest)) (E .0) ∙ ap (λ (l : List ℕ). decimal (e .first) ++ (thenColumn ++ l)) last in
+    rw (sym said) (whole, (E .1, F .1))
+
 refused-back : (c : Acceptance) (xs : List ℕ) (s : Said) → refusedGiven xs ≡ some s → Says c (refusedHead ++ xs) s
 unfolding refusedGiven
 refused-back c xs s r =
     let a = after (valueThen thenPlace xs) _ s r in
-    let b = after (valueThen refusedTail (a .first .rest)) _ s (a .then) in
-    let o = over-back (b .first .rest) _ s (b .then) in
-    let e = after (number (a .first .value)) _ s (o .1) in
-    let f = after (number (b .first .value)) _ s (e .then) in
-    let said : refused (e .first) (f .first) ≡ s = some-same (f .then) in
+    let e = after (number (a .first .value)) _ s (a .then) in
+    let w = after (whereGiven (a .first .rest)) _ s (e .then) in
+    let place = w .first .place in
+    let column = w .first .column in
+    let said : refused (e .first) place column ≡ s = some-same (w .then) in
     let E = decimal-number (a .first .value) (e .first) (e .there) in
-    let F = decimal-number (b .first .value) (f .first) (f .there) in
+    let W = where-back (a .first .rest) (w .first) (w .there) in
     let one : xs ≡ a .first .value ++ (thenPlace ++ a .first .rest) = value-back thenPlace xs (a .first) (a .there) in
-    let two : a .first .rest ≡ b .first .value ++ (refusedTail ++ b .first .rest) = value-back refusedTail (a .first .rest) (b .first) (b .there) in
-    let last : a .first .rest ≡ decimal (f .first) ++ (refusedTail ++ []) =
-    two ∙ ap (λ (l : List ℕ). l ++ (refusedTail ++ b .first .rest)) (F .0) ∙ ap (λ (l : List ℕ). decimal (f .first) ++ (refusedTail ++ l)) (o .0) in
-    let whole : xs ≡ behindRefused (decimal (e .first)) (decimal (f .first)) =
-    one ∙ ap (λ (l : List ℕ). l ++ (thenPlace ++ a .first .rest)) (E .0) ∙ ap (λ (l : List ℕ). decimal (e .first) ++ (thenPlace ++ l)) last in
-    let ours : Ours c (refused (e .first) (f .first)) = record { number-within = E .1; place-within = F .1 } in
-    rw (sym said) (record { ours = ours; prints = ap (λ (l : List ℕ). refusedHead ++ l) whole ∙ sym (refused-text c (e .first) (f .first)) })
+    let whole : xs ≡ behindRefused (decimal (e .first)) (decimal place) (decimal column) =
+    one ∙ ap (λ (l : List ℕ). l ++ (thenPlace ++ a .first .rest)) (E .0) ∙ ap (λ (l : List ℕ). decimal (e .first) ++ (thenPlace ++ l)) (W .0) in
+    let ours : Ours c (refused (e .first) place column) = record { number-within = E .1; place-within = W .1 .0; column-within = W .1 .1 } in
+    rw (sym said) (record { ours = ours; prints = ap (λ (l : List ℕ). refusedHead ++ l) whole ∙ sym (refused-text c (e .first) place column) })
 
 empty-back : (c : Acceptance) (xs : List ℕ) (s : Said) → emptyGiven xs ≡ some s → Says c (emptyHead ++ xs) s
 unfolding emptyGiven

@@ -11,7 +11,7 @@ use Rattle.job_text.specs.Value.{andThen, number}
 use Rattle.answer_form.specs.declared.RunValues.{RunValues}
 use Rattle.answer_form.specs.declared.Form.{Form}
 use Rattle.answer_form.specs.Form.{Said, run, empty, refused}
-use Rattle.answer_form.specs.Given.{startsWith, valueThen, listGiven, isSome, pairGiven, runHead, thenPlace, refusedHead, refusedTail, emptyHead, emptyTail, RunText, runText, runOf, runGiven, refusedGiven, emptyGiven, given, ValuesAt, RunAt, OtherSaid, FormSays, noRun}
+use Rattle.answer_form.specs.Given.{startsWith, valueThen, listGiven, isSome, pairGiven, runHead, thenPlace, refusedHead, emptyHead, emptyTail, RunText, runText, runOf, runGiven, whereGiven, refusedGiven, emptyGiven, given, ValuesAt, RunAt, OtherSaid, FormSays, noRun}
 use Rattle.answer_form.proofs.Digits.{some-same, after}
 use Rattle.answer_form.proofs.Inverse.{over-back}
 
@@ -78,11 +78,9 @@ refused-other : (xs : List ℕ) (s : Said) → refusedGiven xs ≡ some s → (p
 unfolding refusedGiven
 refused-other xs s r pair p q e =
     let a = after (valueThen thenPlace xs) _ s r in
-    let b = after (valueThen refusedTail (a .first .rest)) _ s (a .then) in
-    let o = over-back (b .first .rest) _ s (b .then) in
-    let n = after (number (a .first .value)) _ s (o .1) in
-    let m = after (number (b .first .value)) _ s (n .then) in
-    let said : refused (n .first) (m .first) ≡ run pair p q = some-same (m .then) ∙ e in
+    let n = after (number (a .first .value)) _ s (a .then) in
+    let w = after (whereGiven (a .first .rest)) _ s (n .then) in
+    let said : refused (n .first) (w .first .place) (w .first .column) ≡ run pair p q = some-same (w .then) ∙ e in
     let z : _≡_ {A = ℕ} 0 1 = cc in
     omega arith
 

@@ -10,29 +10,35 @@ use Rattle.table.specs.declared.Verdict.the-variants.{Run, Empty, Refused}
 use Rattle.job_text.specs.Value.{mostNumber}
 use Rattle.answer_text.specs.Printed.{isRabin, answerText}
 
--- one of our answers: a run with its pair, prefix and cycle; empty with its depth; or refused with number and place
+-- one of our answers: a run with its pair, prefix and cycle; empty with its depth; or refused with number, place and column
 pub data Said : Type 0 where
   run : ℕ → List ℕ → List ℕ → Said
   empty : ℕ → Said
-  refused : ℕ → ℕ → Said
+  refused : ℕ → ℕ → ℕ → Said
 
 -- as it is given to the printer: the verdict ..
 abbrev pub verdictOf : Said → Verdict
 verdictOf (run pair prefix cycle) = Run (length prefix) (length cycle) pair
 verdictOf (empty depth) = Empty
-verdictOf (refused number place) = Refused number place
+verdictOf (refused number place column) = Refused number place
+
+-- .. the column, 0 for a run and for empty ..
+abbrev pub columnOf : Said → ℕ
+columnOf (run pair prefix cycle) = 0
+columnOf (empty depth) = 0
+columnOf (refused number place column) = column
 
 -- .. the depth, 0 for a run and a refusal ..
 abbrev pub depthOf : Said → ℕ
 depthOf (run pair prefix cycle) = 0
 depthOf (empty depth) = depth
-depthOf (refused number place) = 0
+depthOf (refused number place column) = 0
 
 -- .. and the room
 abbrev pub roomOf : Said → List ℕ
 roomOf (run pair prefix cycle) = prefix ++ cycle
 roomOf (empty depth) = []
-roomOf (refused number place) = []
+roomOf (refused number place column) = []
 
 -- "numbers at most 65,535"
 abbrev pub Within : List ℕ → Type 0
@@ -45,21 +51,22 @@ pub record OurRun (c : Acceptance) (pair : ℕ) (prefix cycle : List ℕ) : Type
   pub pair-within : pair ≤ mostNumber
   pub no-pair : isRabin c ≡ false → pair ≡ 0
 
--- "refused with any code and place"
-pub record OurRefusal (number place : ℕ) : Type 0 where
+-- "refused with any code, place and column"
+pub record OurRefusal (number place column : ℕ) : Type 0 where
   pub number-within : number ≤ mostNumber
   pub place-within : place ≤ mostNumber
+  pub column-within : column ≤ mostNumber
 
 -- an answer of ours to a job of this kind; "empty with any depth"
 abbrev pub Ours : Acceptance → Said → Type 0
 Ours c (run pair prefix cycle) = OurRun c pair prefix cycle
 Ours c (empty depth) = depth ≤ mostNumber
-Ours c (refused number place) = OurRefusal number place
+Ours c (refused number place column) = OurRefusal number place column
 
 -- the text is well formed and says this: this answer of ours prints as this text, byte for byte
 pub record Says (c : Acceptance) (text : List ℕ) (said : Said) : Type 0 where
   pub ours : Ours c said
-  pub prints : text ≡ answerText (verdictOf said) (depthOf said) c (roomOf said)
+  pub prints : text ≡ answerText (verdictOf said) (columnOf said) (depthOf said) c (roomOf said)
 
 -- 50: "no answer of ours to a job of this kind prints as this text"
 abbrev pub Malformed : Acceptance → List ℕ → Type 0

@@ -13,7 +13,7 @@ use Rattle.table.specs.Row.{part}
 use Rattle.puts.specs.Put.{decimal}
 use Rattle.job_text.specs.Text.{newline, fields, same, ahead}
 use Rattle.job_text.specs.Value.{andThen, dash, number}
-use Rattle.answer_text.specs.Printed.{stop, shown, verdict=, code=, place=, pair=, depth=, prefix=, cycle=, verdictWord}
+use Rattle.answer_text.specs.Printed.{stop, shown, verdict=, code=, place=, column=, pair=, depth=, prefix=, cycle=, verdictWord}
 use Rattle.answer_form.specs.declared.Value.{Value}
 use Rattle.answer_form.specs.declared.RunValues.{RunValues}
 use Rattle.answer_form.specs.declared.Form.{Form}
@@ -79,7 +79,7 @@ pairGiven rabin bs = cond rabin (number bs) (cond (same bs dash) (some 0) none)
 
 -- what a run's text has before its pair ..
 abbrev pub runHead : List ℕ
-runHead = ((shown verdict= (verdictWord (Run 0 0 0)) ++ shown code= (decimal 0)) ++ shown place= (decimal 0)) ++ pair=
+runHead = (((shown verdict= (verdictWord (Run 0 0 0)) ++ shown code= (decimal 0)) ++ shown place= (decimal 0)) ++ shown column= (decimal 0)) ++ pair=
 
 -- .. between it and its prefix, and before its cycle
 abbrev pub thenPrefix : List ℕ
@@ -88,19 +88,22 @@ thenPrefix = newline ∷ (shown depth= (decimal 0) ++ prefix=)
 abbrev pub thenCycle : List ℕ
 thenCycle = newline ∷ cycle=
 
--- what a refusal's text has before its number, before its place, and behind it
+-- what a refusal's text has before its number, before its place, before its column, and behind it
 abbrev pub refusedHead : List ℕ
 refusedHead = shown verdict= (verdictWord (Refused 0 0)) ++ code=
 
 abbrev pub thenPlace : List ℕ
 thenPlace = newline ∷ place=
 
+abbrev pub thenColumn : List ℕ
+thenColumn = newline ∷ column=
+
 abbrev pub refusedTail : List ℕ
 refusedTail = newline ∷ (shown pair= dash ++ (shown depth= (decimal 0) ++ (shown prefix= dash ++ shown cycle= dash)))
 
 -- what an empty verdict's text has before its depth, and behind it
 abbrev pub emptyHead : List ℕ
-emptyHead = (((shown verdict= (verdictWord Empty) ++ shown code= (decimal 0)) ++ shown place= (decimal 0)) ++ shown pair= dash) ++ depth=
+emptyHead = ((((shown verdict= (verdictWord Empty) ++ shown code= (decimal 0)) ++ shown place= (decimal 0)) ++ shown column= (decimal 0)) ++ shown pair= dash) ++ depth=
 
 abbrev pub emptyTail : List ℕ
 emptyTail = newline ∷ (shown prefix= dash ++ shown cycle= dash)
@@ -133,14 +136,28 @@ runOf rabin v =
 abbrev pub runGiven : Bool → List ℕ → Option Said
 runGiven rabin xs = andThen (runText xs) (runOf rabin)
 
+-- where a refusal stands: its place and its column
+pub record Where : Type 0 where
+  pub place : ℕ
+  pub column : ℕ
+
+-- a refusal's text from its place on
+unfoldable pub whereGiven : List ℕ → Option Where
+whereGiven xs =
+    andThen (valueThen thenColumn xs) (λ a.
+    andThen (valueThen refusedTail (a .rest)) (λ b.
+    over (b .rest)
+    (andThen (number (a .value)) (λ place.
+    andThen (number (b .value)) (λ column.
+    some (record { place = place; column = column }))))))
+
+-- .. and from its number on
 unfoldable pub refusedGiven : List ℕ → Option Said
 refusedGiven xs =
     andThen (valueThen thenPlace xs) (λ a.
-    andThen (valueThen refusedTail (a .rest)) (λ b.
-    over (b .rest)
-    (andThen (number (a .value)) (λ n.
-    andThen (number (b .value)) (λ place.
-    some (refused n place))))))
+    andThen (number (a .value)) (λ n.
+    andThen (whereGiven (a .rest)) (λ w.
+    some (refused n (w .place) (w .column)))))
 
 unfoldable pub emptyGiven : List ℕ → Option Said
 emptyGiven xs =

@@ -12,7 +12,7 @@ ghost use lib.ListN.{length, drop};
 ghost use Rattle.job_text.specs.Value.{number};
 ghost use Rattle.job_values.specs.Given.{numberGiven};
 ghost use Rattle.job_text.specs.Text.{fields};
-ghost use Rattle.answer_form.specs.Given.{startsWith, ValueAt, step, steps, listGiven, isSome, pairGiven, ValuesAt, RunForm, refusedGiven, emptyGiven, noRun, FormOf};
+ghost use Rattle.answer_form.specs.Given.{startsWith, ValueAt, step, steps, listGiven, isSome, pairGiven, ValuesAt, RunForm, whereGiven, refusedGiven, emptyGiven, noRun, FormOf};
 
 const NEWLINE: u8 = 10;
 
@@ -233,6 +233,31 @@ fn read_run(text: &[u8], at: usize, rabin: bool) -> Form
     }
 }
 
+// Whether the text from `at` on is a refusal's from its place on.
+fn is_where(text: &[u8], at: usize) -> bool
+    requires { ⌜ at ≤ length (now text) ⌝ }
+    ensures { λ r. ⌜ r ≡ isSome (whereGiven (drop at (now (text .entry)))) ⌝ }
+{
+    let place = value_then(text, at, b"\ncolumn=");
+    if !place.found {
+        return false;
+    }
+    let column = value_then(text, place.next, b"\npair=-\ndepth=0\nprefix=-\ncycle=-\n");
+    if !column.found {
+        return false;
+    }
+    if column.next != text.len() {
+        return false;
+    }
+    let end = place.end;
+    if !is_number(&text[at..end]) {
+        return false;
+    }
+    let next = place.next;
+    let last = column.end;
+    is_number(&text[next..last])
+}
+
 // Whether the text from `at` on is a refusal's from its number on.
 fn is_refusal(text: &[u8], at: usize) -> bool
     requires { ⌜ at ≤ length (now text) ⌝ }
@@ -242,20 +267,11 @@ fn is_refusal(text: &[u8], at: usize) -> bool
     if !number.found {
         return false;
     }
-    let place = value_then(text, number.next, b"\npair=-\ndepth=0\nprefix=-\ncycle=-\n");
-    if !place.found {
-        return false;
-    }
-    if place.next != text.len() {
-        return false;
-    }
     let end = number.end;
     if !is_number(&text[at..end]) {
         return false;
     }
-    let next = number.next;
-    let last = place.end;
-    is_number(&text[next..last])
+    is_where(text, number.next)
 }
 
 // Whether the text from `at` on is an empty verdict's from its depth on.
@@ -285,11 +301,15 @@ fn no_run(ours: bool) -> Form
 pub fn read_answer(text: &[u8], rabin: bool) -> Form
     ensures { λ r. ⌜ FormOf rabin (now (text .entry)) r ⌝ }
 {
-    if starts(text, 0, b"verdict=empty\ncode=0\nplace=0\npair=-\ndepth=") {
-        return no_run(is_empty(text, 42));
+    if starts(
+        text,
+        0,
+        b"verdict=empty\ncode=0\nplace=0\ncolumn=0\npair=-\ndepth=",
+    ) {
+        return no_run(is_empty(text, 51));
     }
-    if starts(text, 0, b"verdict=run\ncode=0\nplace=0\npair=") {
-        return read_run(text, 32, rabin);
+    if starts(text, 0, b"verdict=run\ncode=0\nplace=0\ncolumn=0\npair=") {
+        return read_run(text, 41, rabin);
     }
     if starts(text, 0, b"verdict=refused\ncode=") {
         return no_run(is_refusal(text, 21));

@@ -2,7 +2,7 @@
 pub mod Prints
 -- Room: how long a printed answer is at most
 pub mod Room
--- Refusals: the seven lines of a refusal, and a text that fits
+-- Refusals: the eight lines of a refusal, and a text that fits
 pub mod Refusals
 -- Unique: one result for one input
 pub mod Unique

@@ -1,4 +1,4 @@
--- A printed text that fits, and how long a refusal's seven lines are at most. Assumes nothing.
+-- A printed text that fits, and how long a refusal's eight lines are at most. Assumes nothing.
 use mathlib.Core.Path.{_≡_, sym, _∙_}
 use mathlib.Core.Bool.{true}
 use mathlib.Core.List.{List, [], _++_}
@@ -15,22 +15,24 @@ use Rattle.puts.proofs.Puts.{digits-few, decimal-few}
 use Rattle.job_text.specs.Value.{dash}
 use Rattle.answer_text.specs.declared.Printed.{Printed}
 use Rattle.answer_text.specs.declared.Printed.the-variants as printed
-use Rattle.answer_text.specs.Printed.{shown, verdict=, code=, place=, pair=, depth=, prefix=, cycle=, verdictWord, topText, bottomText, answerText, refusedText, Prints}
+use Rattle.answer_text.specs.Printed.{shown, verdict=, code=, place=, column=, pair=, depth=, prefix=, cycle=, verdictWord, topText, bottomText, answerText, refusedText, Prints}
 use Rattle.answer_text.proofs.Prints.{shown-length}
 
--- ---- seven lines
+-- ---- eight lines
 
--- the first five lines
-top-most : (number place : ℕ) → number < 2 ^ 32 → place < 2 ^ 32 → length (topText (Refused number place) 0 (Buchi 0)) ≤ 64
+-- the first six lines
+top-most : (number place column : ℕ) → number < 2 ^ 32 → place < 2 ^ 32 → column < 2 ^ 32 → length (topText (Refused number place) column 0 (Buchi 0)) ≤ 82
 unfolding topText
-top-most number place l h =
+top-most number place column l h k =
     let one = shown verdict= (verdictWord (Refused number place)) in
     let two = shown code= (decimal number) in
     let three = shown place= (decimal place) in
+    let four = shown column= (decimal column) in
     omega (
       arith,
-      length-append (((one ++ two) ++ three) ++ shown pair= dash) (shown depth= (decimal 0)),
-      length-append ((one ++ two) ++ three) (shown pair= dash),
+      length-append ((((one ++ two) ++ three) ++ four) ++ shown pair= dash) (shown depth= (decimal 0)),
+      length-append (((one ++ two) ++ three) ++ four) (shown pair= dash),
+      length-append ((one ++ two) ++ three) four,
       shown-length depth= (decimal 0),
       digits-few 0 0 0 (omega arith),
       length-append (one ++ two) three,
@@ -39,6 +41,8 @@ top-most number place l h =
       shown-length place= (decimal place),
       decimal-few number l,
       decimal-few place h,
+      shown-length column= (decimal column),
+      decimal-few column k,
     )
 
 -- the last two
@@ -46,14 +50,15 @@ bottom-most : length (bottomText [] []) ≤ 17
 unfolding bottomText
 bottom-most = omega arith
 
--- 81 bytes
-pub refused-few : (number place : ℕ) → number < 2 ^ 32 → place < 2 ^ 32 → length (refusedText number place) ≤ 81
+-- 99 bytes
+pub refused-few : (number place column : ℕ) → number < 2 ^ 32 → place < 2 ^ 32 → column < 2 ^ 32 → length (refusedText number place column) ≤ 99
 unfolding answerText
-refused-few number place l h = omega (arith, length-append (topText (Refused number place) 0 (Buchi 0)) (bottomText [] []), top-most number place l h, bottom-most)
+refused-few number place column l h k =
+    omega (arith, length-append (topText (Refused number place) column 0 (Buchi 0)) (bottomText [] []), top-most number place column l h k, bottom-most)
 
--- one refusal, one text
-pub same-text : {number place x p : ℕ} → Finding.Refused number place ≡ Finding.Refused x p → refusedText number place ≡ refusedText x p
-same-text {number} {place} {x} {p} q = let a : number ≡ x = cc in let b : place ≡ p = cc in rw (a, b)
+-- one refusal and one column, one text
+pub same-text : {number place x p column k : ℕ} → Finding.Refused number place ≡ Finding.Refused x p → column ≡ k → refusedText number place column ≡ refusedText x p k
+same-text {number} {place} {x} {p} q e = let a : number ≡ x = cc in let b : place ≡ p = cc in rw (a, b, e)
 
 -- ---- a text that fits
 

@@ -16,7 +16,7 @@ use Rattle.table.specs.Verdict.{numberOf, placeOf, pairOf, prefixOf, cycleOf}
 use Rattle.job_text.specs.Text.{comma}
 use Rattle.puts.specs.Put.{decimal}
 use Rattle.puts.proofs.Puts.{digits-few, decimal-few}
-use Rattle.answer_text.specs.Printed.{stepText, furtherText, listText, shown, verdict=, code=, place=, pair=, depth=, prefix=, cycle=, verdictWord, pairText, topText, bottomText, answerText, mostPrinted}
+use Rattle.answer_text.specs.Printed.{stepText, furtherText, listText, shown, verdict=, code=, place=, column=, pair=, depth=, prefix=, cycle=, verdictWord, pairText, topText, bottomText, answerText, mostPrinted}
 use Rattle.answer_text.proofs.Prints.{step-stop, step-number, shown-length}
 
 -- ---- an edge number below 512 has at most three digits, and `stop` four letters
@@ -70,16 +70,18 @@ pair-short (Run prefix cycle pair) (Rabin p) h = decimal-few pair h
 pair-short Empty c h = omega arith
 pair-short (Refused number place) c h = omega arith
 
-top-short : (v : Verdict) (depth : ℕ) (c : Acceptance) → numberOf v < 2 ^ 32 → placeOf v < 2 ^ 32 → pairOf v < 2 ^ 32 → depth < 2 ^ 32 → length (topText v depth c) ≤ 82
+top-short : (v : Verdict) (column depth : ℕ) (c : Acceptance) → numberOf v < 2 ^ 32 → placeOf v < 2 ^ 32 → column < 2 ^ 32 → pairOf v < 2 ^ 32 → depth < 2 ^ 32 → length (topText v column depth c) ≤ 100
 unfolding topText
-top-short v depth c h k l d =
+top-short v column depth c h k m l d =
     let one = shown verdict= (verdictWord v) in
     let two = shown code= (decimal (numberOf v)) in
     let three = shown place= (decimal (placeOf v)) in
-    let four = shown pair= (pairText v c) in
-    let five = shown depth= (decimal depth) in
+    let four = shown column= (decimal column) in
+    let five = shown pair= (pairText v c) in
+    let six = shown depth= (decimal depth) in
     omega (
       arith,
+      length-append ((((one ++ two) ++ three) ++ four) ++ five) six,
       length-append (((one ++ two) ++ three) ++ four) five,
       length-append ((one ++ two) ++ three) four,
       length-append (one ++ two) three,
@@ -90,6 +92,8 @@ top-short v depth c h k l d =
       decimal-few (numberOf v) h,
       shown-length place= (decimal (placeOf v)),
       decimal-few (placeOf v) k,
+      shown-length column= (decimal column),
+      decimal-few column m,
       shown-length pair= (pairText v c),
       pair-short v c l,
       shown-length depth= (decimal depth),
@@ -109,16 +113,16 @@ bottom-short p c h k =
     )
 
 -- the buffer suffices: for numbers of 32 bits, and a room of at most 8,703 edges of a job
-pub enough : (v : Verdict) (depth : ℕ) (c : Acceptance) (room : List ℕ) → numberOf v < 2 ^ 32 → placeOf v < 2 ^ 32 → pairOf v < 2 ^ 32 → depth < 2 ^ 32
-    → length room ≤ 8703 → Briefs room → length (answerText v depth c room) ≤ mostPrinted
+pub enough : (v : Verdict) (column depth : ℕ) (c : Acceptance) (room : List ℕ) → numberOf v < 2 ^ 32 → placeOf v < 2 ^ 32 → column < 2 ^ 32 → pairOf v < 2 ^ 32
+    → depth < 2 ^ 32 → length room ≤ 8703 → Briefs room → length (answerText v column depth c room) ≤ mostPrinted
 unfolding answerText
-enough v depth c room h k l d few brief =
+enough v column depth c room h k m l d few brief =
     let p = take (prefixOf v) room in
     let q = take (cycleOf v) (drop (prefixOf v) room) in
     omega (
       arith,
-      length-append (topText v depth c) (bottomText p q),
-      top-short v depth c h k l d,
+      length-append (topText v column depth c) (bottomText p q),
+      top-short v column depth c h k m l d,
       bottom-short p q (take-brief (prefixOf v) room brief) (take-brief (cycleOf v) (drop (prefixOf v) room) (drop-brief (prefixOf v) room brief)),
       length-take (prefixOf v) room,
       length-take (cycleOf v) (drop (prefixOf v) room),

@@ -1,2 +1,2 @@
--- Printed: the seven lines of an answer, and what printing them into a lent buffer does
+-- Printed: the eight lines of an answer, and what printing them into a lent buffer does
 pub mod Printed

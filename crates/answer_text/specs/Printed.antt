@@ -35,7 +35,7 @@ abbrev pub listText : List ℕ → List ℕ
 listText [] = dash
 listText (e ∷ es) = stepText e ++ furtherText es
 
--- ---- the seven lines
+-- ---- the eight lines
 
 abbrev pub shown : List ℕ → List ℕ → List ℕ
 shown key text = (key ++ text) ++ (newline ∷ [])
@@ -48,6 +48,9 @@ code= = 99 ∷ 111 ∷ 100 ∷ 101 ∷ 61 ∷ []
 
 abbrev pub place= : List ℕ
 place= = 112 ∷ 108 ∷ 97 ∷ 99 ∷ 101 ∷ 61 ∷ []
+
+abbrev pub column= : List ℕ
+column= = 99 ∷ 111 ∷ 108 ∷ 117 ∷ 109 ∷ 110 ∷ 61 ∷ []
 
 abbrev pub pair= : List ℕ
 pair= = 112 ∷ 97 ∷ 105 ∷ 114 ∷ 61 ∷ []
@@ -78,26 +81,29 @@ pairText (Run prefix cycle pair) c = cond (isRabin c) (decimal pair) dash
 pairText Empty c = dash
 pairText (Refused number place) c = dash
 
--- "verdict (run, empty, refused), number and place from the table, pair, depth" ..
-unfoldable pub topText : Verdict → ℕ → Acceptance → List ℕ
-topText v depth c =
-    (((shown verdict= (verdictWord v)
+-- "verdict (run, empty, refused), number and place from the table, column" ..
+abbrev pub headText : Verdict → ℕ → List ℕ
+headText v column =
+    ((shown verdict= (verdictWord v)
     ++ shown code= (decimal (numberOf v)))
     ++ shown place= (decimal (placeOf v)))
-    ++ shown pair= (pairText v c))
-    ++ shown depth= (decimal depth)
+    ++ shown column= (decimal column)
+
+-- .. "pair, depth" ..
+unfoldable pub topText : Verdict → ℕ → ℕ → Acceptance → List ℕ
+topText v column depth c = (headText v column ++ shown pair= (pairText v c)) ++ shown depth= (decimal depth)
 
 -- .. "edge numbers of prefix and of cycle"
 unfoldable pub bottomText : List ℕ → List ℕ → List ℕ
 bottomText prefix cycle = shown prefix= (listText prefix) ++ shown cycle= (listText cycle)
 
 -- the room holds the prefix, then the cycle; of a length past the room, the cells that are there
-unfoldable pub answerText : Verdict → ℕ → Acceptance → List ℕ → List ℕ
-answerText v depth c room = topText v depth c ++ bottomText (take (prefixOf v) room) (take (cycleOf v) (drop (prefixOf v) room))
+unfoldable pub answerText : Verdict → ℕ → ℕ → Acceptance → List ℕ → List ℕ
+answerText v column depth c room = topText v column depth c ++ bottomText (take (prefixOf v) room) (take (cycleOf v) (drop (prefixOf v) room))
 
--- a refusal: number and place, no pair, depth 0, no edges
-abbrev pub refusedText : ℕ → ℕ → List ℕ
-refusedText number place = answerText (Refused number place) 0 (Buchi 0) []
+-- a refusal: number, place and column, no pair, depth 0, no edges
+abbrev pub refusedText : ℕ → ℕ → ℕ → List ℕ
+refusedText number place column = answerText (Refused number place) column 0 (Buchi 0) []
 
 -- a buffer of this many bytes is long enough for every answer of the program: at most (32 + 2) * 256 - 1 edges, each a number below 512 or `stop`,
 -- with their commas, and what stands around them (`Room.enough`, in proofs/)

@@ -1,4 +1,4 @@
-// The printer of answers: seven lines into a lent buffer (docs/RULES.md, "The job text and the printed answer"). Relies on the crate `table` for the
+// The printer of answers: eight lines into a lent buffer (docs/RULES.md, "The job text and the printed answer"). Relies on the crate `table` for the
 // verdict and on `puts` for bytes and numbers. What is printed is in specs/Printed.antt.
 use puts::clear;
 use puts::put;
@@ -15,7 +15,7 @@ ghost use mathlib.Core.Bool.{cond};
 ghost use Rattle.table.specs.Verdict.{numberOf, placeOf, prefixOf, cycleOf};
 ghost use Rattle.puts.specs.Put.{decimal, Put, PutFew};
 ghost use Rattle.job_text.specs.Value.{dash};
-ghost use Rattle.answer_text.specs.Printed.{stepText, furtherText, listText, shown, verdict=, pair=, verdictWord, isRabin, pairText, topText, bottomText, answerText, refusedText, Prints};
+ghost use Rattle.answer_text.specs.Printed.{stepText, furtherText, listText, shown, verdict=, pair=, verdictWord, isRabin, pairText, headText, topText, bottomText, answerText, refusedText, Prints};
 
 // The number of a waiting edge. crates/table/specs/Table.antt has the same number, as `waiting`.
 const WAITING: u32 = 65535;
@@ -202,13 +202,27 @@ fn least(a: usize, b: usize) -> usize
     if a < b { a } else { b }
 }
 
-// The verdict's, the code's, the place's, the pair's and the depth's lines.
-fn put_top(out: &mut [u8], verdict: Verdict, depth: u32, condition: Acceptance) -> usize
-    ensures { λ r. ⌜ PutFew (now (out .entry)) (now (out .exit)) 0 (topText verdict depth condition) r 100 ⌝ }
+// The verdict's, the code's, the place's and the column's lines.
+fn put_head(out: &mut [u8], verdict: Verdict, column: u32) -> usize
+    ensures { λ r. ⌜ PutFew (now (out .entry)) (now (out .exit)) 0 (headText verdict column) r 70 ⌝ }
 {
     let code = put_verdict(out, verdict);
     let place = put_held(out, code, b"code=", number_of(verdict), b'\n');
-    let pair = put_held(out, place, b"place=", place_of(verdict), b'\n');
+    let told = put_held(out, place, b"place=", place_of(verdict), b'\n');
+    put_held(out, told, b"column=", column, b'\n')
+}
+
+// Those, the pair's and the depth's lines.
+fn put_top(
+    out: &mut [u8],
+    verdict: Verdict,
+    column: u32,
+    depth: u32,
+    condition: Acceptance,
+) -> usize
+    ensures { λ r. ⌜ PutFew (now (out .entry)) (now (out .exit)) 0 (topText verdict column depth condition) r 120 ⌝ }
+{
+    let pair = put_head(out, verdict, column);
     let deep = put_pair(out, pair, verdict, condition);
     put_held(out, deep, b"depth=", depth, b'\n')
 }
@@ -222,48 +236,62 @@ fn put_bottom(out: &mut [u8], at: usize, prefix: &[u32], cycle: &[u32]) -> usize
     put_listed(out, next, b"cycle=", cycle)
 }
 
-// The seven lines.
+// The eight lines.
 fn put_answer(
     out: &mut [u8],
     verdict: Verdict,
+    column: u32,
     depth: u32,
     condition: Acceptance,
     room: &[u32],
 ) -> usize
-    ensures { λ r. ⌜ Put (now (out .entry)) (now (out .exit)) 0 (answerText verdict depth condition (now (room .entry))) r ⌝ }
+    ensures { λ r. ⌜ Put (now (out .entry)) (now (out .exit)) 0 (answerText verdict column depth condition (now (room .entry))) r ⌝ }
 {
     let knot = least(prefix_of(verdict) as usize, room.len());
     let end = knot + least(cycle_of(verdict) as usize, room.len() - knot);
-    let lists = put_top(out, verdict, depth, condition);
+    let lists = put_top(out, verdict, column, depth, condition);
     put_bottom(out, lists, &room[0..knot], &room[knot..end])
 }
 
-// The printed answer and zeros after it, if the buffer is long enough for it; else row 11, and the buffer as it was.
-pub fn print(answer: Answer, condition: Acceptance, room: &[u32], out: &mut [u8]) -> Printed
-    ensures { λ r. ⌜ Prints (answerText (answer .verdict) (answer .depth) condition (now (room .entry))) (now (out .entry)) (now (out .exit)) r ⌝ }
+// The answer's lines with this column and zeros after them, if the buffer is long enough for them; else row 11, and the buffer as it was.
+fn print_told(
+    answer: Answer,
+    column: u32,
+    condition: Acceptance,
+    room: &[u32],
+    out: &mut [u8],
+) -> Printed
+    ensures { λ r. ⌜ Prints (answerText (answer .verdict) column (answer .depth) condition (now (room .entry))) (now (out .entry)) (now (out .exit)) r ⌝ }
 {
     let verdict = answer.verdict;
     let depth = answer.depth;
-    let length = put_answer(&mut out[0..0], verdict, depth, condition, room);
+    let length = put_answer(&mut out[0..0], verdict, column, depth, condition, room);
     if out.len() < length {
         return Printed::Refused {
             number: 11,
             place: 0,
         };
     }
-    put_answer(out, verdict, depth, condition, room);
+    put_answer(out, verdict, column, depth, condition, room);
     clear(out, length);
     Printed::Text { length }
 }
 
-// The seven lines of a refusal and zeros after them, in the same way.
-pub fn print_refused(number: u32, place: u32, out: &mut [u8]) -> Printed
-    ensures { λ r. ⌜ Prints (refusedText number place) (now (out .entry)) (now (out .exit)) r ⌝ }
+// The printed answer of the judge, with column 0, and zeros after it, if the buffer is long enough for it; else row 11, and the buffer as it was.
+pub fn print(answer: Answer, condition: Acceptance, room: &[u32], out: &mut [u8]) -> Printed
+    ensures { λ r. ⌜ Prints (answerText (answer .verdict) 0 (answer .depth) condition (now (room .entry))) (now (out .entry)) (now (out .exit)) r ⌝ }
+{
+    print_told(answer, 0, condition, room, out)
+}
+
+// The eight lines of a refusal and zeros after them, in the same way.
+pub fn print_refused(number: u32, place: u32, column: u32, out: &mut [u8]) -> Printed
+    ensures { λ r. ⌜ Prints (refusedText number place column) (now (out .entry)) (now (out .exit)) r ⌝ }
 {
     let room = [0u32; 0];
     let refused = Answer {
         verdict: Verdict::Refused { number, place },
         depth: 0,
     };
-    print(refused, Acceptance::Buchi(0), &room, out)
+    print_told(refused, column, Acceptance::Buchi(0), &room, out)
 }

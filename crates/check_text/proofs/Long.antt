@@ -15,7 +15,7 @@ use Rattle.answer_text.specs.Printed.{shown, prefix=, cycle=, listText, topText
 use Rattle.answer_text.proofs.Prints.{shown-length}
 use Rattle.answer_check.specs.declared.Checked.{Checked}
 use Rattle.answer_check.specs.declared.Checked.the-variants.{Refused}
-use Rattle.answer_form.specs.Form.{Said, run, verdictOf, roomOf, Says}
+use Rattle.answer_form.specs.Form.{Said, run, verdictOf, columnOf, depthOf, roomOf, Says}
 use Rattle.answer_check.specs.Checking.{Told, malformed, no-run, run-judged, ByCause, ByJob, Checks}
 use Rattle.check_text.specs.Split.{jobPart, answerPart, mostAnswer, heard}
 use Rattle.check_text.specs.Replied.{CheckReplied}
@@ -32,21 +32,21 @@ says-some c said S =
     let v = verdictOf said in
     let prefix = take (prefixOf v) (roomOf said) in
     let cycle = take (cycleOf v) (drop (prefixOf v) (roomOf said)) in
-    omega (arith, ap length (S .prints), length-append (topText v c) (bottomText prefix cycle), bottom-some prefix cycle)
+    omega (arith, ap length (S .prints), length-append (topText v (columnOf said) (depthOf said) c) (bottomText prefix cycle), bottom-some prefix cycle)
 
-told-50 : (t : Table) (c : Acceptance) (needs : List ℕ) (r : Checked) → Told t c needs [] r → r ≡ Refused 50 0
+told-50 : (t : Table) (c : Acceptance) (needs : List ℕ) (r : Checked) → Told t c needs [] r → r ≡ Refused 50 0 0
 told-50 t c needs r (malformed m e) = e
 told-50 t c needs r (no-run n e) = absurd (says-some c (n .said) (n .says))
 told-50 t c needs r (run-judged R) = absurd (says-some c (run (R .pair) (R .prefix) (R .cycle)) (R .says))
 
-checks-50 : (text : List ℕ) (j : Job) (r : Checked) → readJob text ≡ job j → firstCause (job j) ≡ Sound → Checks text [] r → r ≡ Refused 50 0
+checks-50 : (text : List ℕ) (j : Job) (r : Checked) → readJob text ≡ job j → firstCause (job j) ≡ Sound → Checks text [] r → r ≡ Refused 50 0 0
 checks-50 text j r o s C =
-    let B : ByCause (firstCause (job j)) (jobTable j) (j .condition) (j .needs) [] r = subst (λ (x : Outcome). ByJob x [] r) o C in
+    let B : ByCause (firstCause (job j)) (jobTable j) (j .condition) (j .needs) [] r = subst (λ (x : Outcome). ByJob text x [] r) o C in
     told-50 (jobTable j) (j .condition) (j .needs) r (subst (λ f. ByCause f (jobTable j) (j .condition) (j .needs) [] r) s B)
 
 -- above 65,536 bytes: 50
 pub too-long : {input out : List ℕ} {size : ℕ} (R : CheckReplied input out size) (j : Job) → readJob (jobPart input) ≡ job j → firstCause (job j) ≡ Sound
-    → mostAnswer < length (answerPart input) → R .result ≡ Refused 50 0
+    → mostAnswer < length (answerPart input) → R .result ≡ Refused 50 0 0
 too-long {input} R j o s l =
     let none : heard (answerPart input) ≡ [] = rw (lt-ltb mostAnswer (length (answerPart input)) l) in
     checks-50 (jobPart input) j (R .result) o s (subst (λ (a : List ℕ). Checks (jobPart input) a (R .result)) none (R .checks))

@@ -52,8 +52,8 @@ unfolding answerText
 says-long c text pair prefix cycle S =
     let first : take (length prefix) (prefix ++ cycle) ≡ prefix = take-at prefix cycle (length prefix) refl in
     let second : take (length cycle) (drop (length prefix) (prefix ++ cycle)) ≡ cycle = rw (drop-at prefix cycle (length prefix) refl) (take-length cycle) in
-    let prints : text ≡ topText (verdictOf (run pair prefix cycle)) c ++ bottomText prefix cycle = rw (first, second) at (S .prints) in
-    omega (arith, ap length prints, length-append (topText (verdictOf (run pair prefix cycle)) c) (bottomText prefix cycle), bottom-long prefix cycle)
+    let prints : text ≡ topText (verdictOf (run pair prefix cycle)) 0 0 c ++ bottomText prefix cycle = rw (first, second) at (S .prints) in
+    omega (arith, ap length prints, length-append (topText (verdictOf (run pair prefix cycle)) 0 0 c) (bottomText prefix cycle), bottom-long prefix cycle)
 
 -- a fault lies in its list or at its end
 cycle-in : (t : Table) (knot : ℕ) (cycle : List ℕ) (i : ℕ) → Breaks t knot cycle i ⊎ Open t knot cycle i → i ≤ length cycle
@@ -68,7 +68,7 @@ fault-in t c needs pair prefix cycle Cycle i J = omega (arith, cycle-in t (J .kn
 fault-in t c needs pair prefix cycle Condition i J = omega (arith, J .position)
 
 -- what is refused has no position
-refused-slight : {number place : ℕ} (r : Checked) → r ≡ Refused number place → Slight r
+refused-slight : {number place column : ℕ} (r : Checked) → r ≡ Refused number place column → Slight r
 refused-slight r e = rw e tt
 
 module _ (answer : List ℕ) (few : length answer ≤ mostAnswer) where
@@ -76,7 +76,7 @@ module _ (answer : List ℕ) (few : length answer ≤ mostAnswer) where
       → Judged t c needs pair prefix cycle r → Slight r
   judged-slight t c needs pair prefix cycle Accepted S J = tt
   judged-slight t c needs pair prefix cycle (Rejected f i) S J = omega (arith, few, says-long c answer pair prefix cycle S, fault-in t c needs pair prefix cycle f i J)
-  judged-slight t c needs pair prefix cycle (Refused number place) S J = tt
+  judged-slight t c needs pair prefix cycle (Refused number place column) S J = tt
 
   told-slight : (t : Table) (c : Acceptance) (needs : List ℕ) (r : Checked) → Told t c needs answer r → Slight r
   told-slight t c needs r (malformed m e) = refused-slight r e
@@ -87,10 +87,10 @@ module _ (answer : List ℕ) (few : length answer ≤ mostAnswer) where
   cause-slight (finding.Refused number place) t c needs r e = refused-slight r e
   cause-slight finding.Sound t c needs r T = told-slight t c needs r T
 
-  job-slight : (o : Outcome) (r : Checked) → ByJob o answer r → Slight r
-  job-slight (faulty number place) r e = refused-slight r e
-  job-slight (job j) r T = cause-slight (firstCause (job j)) (jobTable j) (j .condition) (j .needs) r T
+  job-slight : (text : List ℕ) (o : Outcome) (r : Checked) → ByJob text o answer r → Slight r
+  job-slight text (faulty number place) r T = refused-slight r (T .told)
+  job-slight text (job j) r T = cause-slight (firstCause (job j)) (jobTable j) (j .condition) (j .needs) r T
 
   -- what is given for an answer text that is not long
   pub checks-slight : (text : List ℕ) (r : Checked) → Checks text answer r → Slight r
-  checks-slight text r T = job-slight (readJob text) r T
+  checks-slight text r T = job-slight text (readJob text) r T

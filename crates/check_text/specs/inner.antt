@@ -23,4 +23,4 @@ pub record HeardTo (size all r : ℕ) : Type 0 where
 abbrev pub Slight : Checked → Type 0
 Slight Accepted = Unit {0}
 Slight (Rejected fault position) = position < 2 ^ 32
-Slight (Refused number place) = Unit {0}
+Slight (Refused number place column) = Unit {0}

@@ -40,32 +40,37 @@ fn job_size(input: &[u8]) -> usize
     input.len()
 }
 
-// A refusal's first three lines.
-fn put_refused(out: &mut [u8], number: u32, place: u32) -> usize
-    ensures { λ r. ⌜ PutFew (now (out .entry)) (now (out .exit)) 0 (topText (Checked.Refused number place)) r 60 ⌝ }
+// A refusal's first four lines.
+fn put_refused(out: &mut [u8], number: u32, place: u32, column: u32) -> usize
+    ensures { λ r. ⌜ PutFew (now (out .entry)) (now (out .exit)) 0 (topText (Checked.Refused number place column)) r 70 ⌝ }
 {
     let next = put_held(out, 0, b"verdict=refused\ncode=", number, b'\n');
-    put_held(out, next, b"place=", place, b'\n')
+    let told = put_held(out, next, b"place=", place, b'\n');
+    put_held(out, told, b"column=", column, b'\n')
 }
 
-// The first three lines.
+// The first four lines.
 fn put_top(out: &mut [u8], checked: Checked) -> usize
-    ensures { λ r. ⌜ PutFew (now (out .entry)) (now (out .exit)) 0 (topText checked) r 60 ⌝ }
+    ensures { λ r. ⌜ PutFew (now (out .entry)) (now (out .exit)) 0 (topText checked) r 70 ⌝ }
 {
     match checked {
-        Checked::Accepted => put_word(out, 0, b"verdict=accepted\ncode=0\nplace=0\n"),
+        Checked::Accepted => put_word(out, 0, b"verdict=accepted\ncode=0\nplace=0\ncolumn=0\n"),
         Checked::Rejected {
             fault: _,
             position: _,
-        } => put_word(out, 0, b"verdict=rejected\ncode=0\nplace=0\n"),
-        Checked::Refused { number, place } => put_refused(out, number, place),
+        } => put_word(out, 0, b"verdict=rejected\ncode=0\nplace=0\ncolumn=0\n"),
+        Checked::Refused {
+            number,
+            place,
+            column,
+        } => put_refused(out, number, place, column),
     }
 }
 
 // The lines of a fault.
 fn put_fault(out: &mut [u8], at: usize, fault: Fault, position: u32) -> usize
     requires { ⌜ at < 2 ^ 20 ⌝ }
-    ensures { λ r. ⌜ PutFew (now (out .entry)) (now (out .exit)) at (faultLines (Checked.Rejected fault position)) r 50 ⌝ }
+    ensures { λ r. ⌜ PutFew (now (out .entry)) (now (out .exit)) at (faultLines (Checked.Rejected fault position)) r 40 ⌝ }
 {
     match fault {
         Fault::Prefix => put_held(out, at, b"fault=prefix\nposition=", position, b'\n'),
@@ -79,19 +84,20 @@ fn put_fault(out: &mut [u8], at: usize, fault: Fault, position: u32) -> usize
 fn put_bottom(out: &mut [u8], at: usize, checked: Checked) -> usize
     requires { ⌜ at < 2 ^ 20 ⌝ }
     requires { ⌜ Slight checked ⌝ }
-    ensures { λ r. ⌜ PutFew (now (out .entry)) (now (out .exit)) at (faultLines checked) r 50 ⌝ }
+    ensures { λ r. ⌜ PutFew (now (out .entry)) (now (out .exit)) at (faultLines checked) r 40 ⌝ }
 {
     match checked {
         Checked::Accepted => put_word(out, at, b"fault=-\nposition=-\n"),
         Checked::Refused {
             number: _,
             place: _,
+            column: _,
         } => put_word(out, at, b"fault=-\nposition=-\n"),
         Checked::Rejected { fault, position } => put_fault(out, at, fault, position as u32),
     }
 }
 
-// The five lines.
+// The six lines.
 fn put_checked(out: &mut [u8], checked: Checked) -> usize
     requires { ⌜ Slight checked ⌝ }
     ensures { λ r. ⌜ PutFew (now (out .entry)) (now (out .exit)) 0 (checkedText checked) r 110 ⌝ }

@@ -34,11 +34,11 @@ use Rattle.hoa_text.specs.Turned.{writtenFor, turned, Stands, Turned}
 -- ---- what the writer gives for a job
 
 -- the text stands in the output, or the refusal is the one to be told
-abbrev Wrote : Outcome → List ℕ → Written → Type 0
-Wrote o out (written.Text size) = Stands (turned o) out size
-Wrote o out (written.Refused number place) = turned o ≡ refusedText number place
+abbrev Wrote : Outcome → ℕ → List ℕ → Written → Type 0
+Wrote o column out (written.Text size) = Stands (turned o column) out size
+Wrote o column out (written.Refused number place) = turned o column ≡ refusedText number place 0
 
-module _ (j : Job) (L : Limited j) (out : List ℕ) (wide : length out ≡ mostBytes) where
+module _ (j : Job) (column : ℕ) (L : Limited j) (out : List ℕ) (wide : length out ≡ mostBytes) where
   text : List ℕ
   text = hoaText (jobTable j) (j .condition) (j .needs)
 
@@ -62,14 +62,14 @@ module _ (j : Job) (L : Limited j) (out : List ℕ) (wide : length out ≡ mostB
   only-rows (Refused number place) e = rw e
 
   wrote-by : (f : Finding) {out' : List ℕ} {w : Written} → refusal (jobTable j) (j .condition) (j .needs) ≡ f → w ≡ writtenOf text f → out' ≡ outputOf text out f
-      → Wrote (job j) out' w
+      → Wrote (job j) column out' w
   unfolding text
   wrote-by Sound e a o =
-      let is : turned (job j) ≡ text = ap (λ (f : Finding). writtenFor f text) e in
+      let is : turned (job j) column ≡ text = ap (λ (f : Finding). writtenFor f text) e in
       rw a (record { all = ap length (sym is); cells = o ∙ rw (is, wide) })
   wrote-by (Refused number place) e a o = rw a (ap (λ (f : Finding). writtenFor f text) e)
 
-  wrote : {out' : List ℕ} {w : Written} → Writes (jobTable j) (j .condition) (j .needs) out out' w → Wrote (job j) out' w
+  wrote : {out' : List ℕ} {w : Written} → Writes (jobTable j) (j .condition) (j .needs) out out' w → Wrote (job j) column out' w
   unfolding text
   wrote W =
       let f = refusal (jobTable j) (j .condition) (j .needs) in
@@ -79,9 +79,10 @@ module _ (j : Job) (L : Limited j) (out : List ℕ) (wide : length out ≡ mostB
 -- ---- for any text that is read
 
 -- what the reader refuses
-refused-by : (o : Outcome) (r : Reading) (number place : ℕ) → r ≡ readingOf o (r .column) → r .finding ≡ Refused number place → turned o ≡ refusedText number place
-refused-by (job j) r number place e f = absurd (unlike (sym f ∙ ap (λ (x : Reading). x .finding) e))
-refused-by (fault x p) r number place e f = same-text (sym (ap (λ (x : Reading). x .finding) e) ∙ f)
+refused-by : (o : Outcome) (r : Reading) (number place column : ℕ) → r ≡ readingOf o column → r .finding ≡ Refused number place
+    → turned o column ≡ refusedText number place column
+refused-by (job j) r number place column e f = absurd (unlike (sym f ∙ ap (λ (x : Reading). x .finding) e))
+refused-by (fault x p) r number place column e f = same-text (sym (ap (λ (x : Reading). x .finding) e) ∙ f) refl
 
 module _ (r : Reading) (from to marks out out' : List ℕ) (w : Written) where
   -- the writer's contract at what was lent to it: the parts of the tables that hold edges
@@ -90,7 +91,7 @@ module _ (r : Reading) (from to marks out out' : List ℕ) (w : Written) where
       Writes (lent (r .states) (r .start) (take (r .edges - 0) (drop 0 from)) (take (r .edges - 0) (drop 0 to)) (take (r .edges - 0) (drop 0 marks)))
       (r .condition) (r .needs) out out' w
 
-  module _ (j : Job) {column : ℕ} (e : r ≡ readingOf (job j) column) (f : from ≡ padTo mostJobEdges (map (λ (e : Edge). e .from) (j .edges)))
+  module _ (j : Job) (column : ℕ) (e : r ≡ readingOf (job j) column) (f : from ≡ padTo mostJobEdges (map (λ (e : Edge). e .from) (j .edges)))
       (g : to ≡ padTo mostJobEdges (map (λ (e : Edge). e .to) (j .edges))) (h : marks ≡ padTo mostJobEdges (map (λ (e : Edge). e .marks) (j .edges))) where
     -- .. is its contract at the job's table
     on-job : Lent → Writes (jobTable j) (j .condition) (j .needs) out out' w
@@ -98,27 +99,31 @@ module _ (r : Reading) (from to marks out out' : List ℕ) (w : Written) where
         rw (part-is (λ (e : Edge). e .from) (j .edges), part-is (λ (e : Edge). e .to) (j .edges), part-is (λ (e : Edge). e .marks) (j .edges)) at
         (rw (e, f, g, h) at W)
 
-  written-by : (o : Outcome) (b b' b'' : List ℕ) → Bounded o → r ≡ readingOf o (r .column) → r .finding ≡ Sound → from ≡ cellsOf (λ e. e .from) o b
-      → to ≡ cellsOf (λ e. e .to) o b' → marks ≡ cellsOf (λ e. e .marks) o b'' → length out ≡ mostBytes → Lent → Wrote o out' w
-  written-by (fault number place) b b' b'' B e s f g h wide W = absurd (unlike (sym (ap (λ (x : Reading). x .finding) e) ∙ s))
-  written-by (job j) b b' b'' B e s f g h wide W = wrote j B out wide (on-job j e f g h W)
+  written-by : (o : Outcome) (b b' b'' : List ℕ) (column : ℕ) → Bounded o → r ≡ readingOf o column → r .finding ≡ Sound → from ≡ cellsOf (λ e. e .from) o b
+      → to ≡ cellsOf (λ e. e .to) o b' → marks ≡ cellsOf (λ e. e .marks) o b'' → length out ≡ mostBytes → Lent → Wrote o column out' w
+  written-by (fault number place) b b' b'' column B e s f g h wide W = absurd (unlike (sym (ap (λ (x : Reading). x .finding) e) ∙ s))
+  written-by (job j) b b' b'' column B e s f g h wide W = wrote j column B out wide (on-job j column e f g h W)
 
 module _ {text b b' b'' from to marks : List ℕ} {r : Reading} (R : Read text b b' b'' from to marks r) where
   -- the reader refuses, and the refusal stands in the output
-  pub refused-turned : {number place : ℕ} {out : List ℕ} {size : ℕ} → r .finding ≡ Refused number place → Stands (refusedText number place) out size → Turned text out size
-  refused-turned {number} {place} f S = record { held = rw (refused-by (readJob text) r number place (R .reading) f) S }
+  pub refused-turned : {number place : ℕ} {out : List ℕ} {size : ℕ} → r .finding ≡ Refused number place → Stands (refusedText number place (r .column)) out size
+      → Turned text out size
+  refused-turned {number} {place} f S =
+      record { column = r .column; first = R .column; held = rw (refused-by (readJob text) r number place (r .column) (R .reading) f) S }
 
   module _ {out out' : List ℕ} {w : Written} (sound : r .finding ≡ Sound) (wide : length out ≡ mostBytes) (W : Lent r from to marks out out' w) where
-    here : Wrote (readJob text) out' w
-    here = written-by r from to marks out out' w (readJob text) b b' b'' (read-bounded text) (R .reading) sound (R .froms) (R .tos) (R .sets) wide W
+    here : Wrote (readJob text) (r .column) out' w
+    here = written-by r from to marks out out' w (readJob text) b b' b'' (r .column) (read-bounded text) (R .reading) sound (R .froms) (R .tos) (R .sets) wide W
 
     -- the text stands in the output
     pub text-turned : {size : ℕ} → w ≡ written.Text size → Turned text out' size
-    text-turned e = record { held = subst (Wrote (readJob text) out') e here }
+    text-turned e = record { column = r .column; first = R .column; held = subst (Wrote (readJob text) (r .column) out') e here }
 
     -- one of rows 1 to 7 refuses, and the refusal stands in the output
-    pub row-turned : {number place : ℕ} {out'' : List ℕ} {size : ℕ} → w ≡ written.Refused number place → Stands (refusedText number place) out'' size → Turned text out'' size
-    row-turned {number} {place} e S = let is : turned (readJob text) ≡ refusedText number place = subst (Wrote (readJob text) out') e here in record { held = rw is S }
+    pub row-turned : {number place : ℕ} {out'' : List ℕ} {size : ℕ} → w ≡ written.Refused number place → Stands (refusedText number place 0) out'' size → Turned text out'' size
+    row-turned {number} {place} e S =
+        let is : turned (readJob text) (r .column) ≡ refusedText number place 0 = subst (Wrote (readJob text) (r .column) out') e here in
+        record { column = r .column; first = R .column; held = rw is S }
 
 -- ---- what is printed
 
@@ -129,4 +134,4 @@ stands-whole wide fits P e = let all = printed-all fits P e in record { all = al
 -- what is written lies within what was lent
 pub turned-within : {text out : List ℕ} {size : ℕ} → Turned text out size → size ≤ length out
 turned-within {text} {size = size} T =
-    let H = T .held in omega (arith, H .all, ap length (H .cells), length-append (turned (readJob text)) (replicate (mostBytes - size) 0))
+    let H = T .held in omega (arith, H .all, ap length (H .cells), length-append (turned (readJob text) (T .column)) (replicate (mostBytes - size) 0))

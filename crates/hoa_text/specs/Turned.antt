@@ -6,21 +6,22 @@ use lib.ListN.{length, replicate}
 use Rattle.table.specs.declared.Finding.{Finding}
 use Rattle.table.specs.declared.Finding.the-variants.{Sound, Refused}
 use Rattle.table.specs.Refusal.{refusal}
-use Rattle.job_text.specs.Job.{Outcome, job, fault, readJob}
+use Rattle.job_text.specs.Job.{Outcome, job, fault, readJob, Column}
 use Rattle.hoa_written.specs.Written.{hoaText}
 use Rattle.hoa_written.specs.Writing.{mostBytes}
 use Rattle.job_text.specs.Asked.{jobTable}
 use Rattle.answer_text.specs.Printed.{refusedText}
 
--- "the HOA text out, or the lines of the refusal": of rows 1 to 7, the only ones that a job can come to
+-- "the HOA text out, or the lines of the refusal": of rows 1 to 7, the only ones that a job can come to, with column 0
 abbrev pub writtenFor : Finding → List ℕ → List ℕ
 writtenFor Sound written = written
-writtenFor (Refused number place) written = refusedText number place
+writtenFor (Refused number place) written = refusedText number place 0
 
--- "20 comes first", 21, 22 and 23 line by line: what the reader refuses is printed as it is; what it reads is written
-abbrev pub turned : Outcome → List ℕ
-turned (fault number place) = refusedText number place
-turned (job j) = writtenFor (refusal (jobTable j) (j .condition) (j .needs)) (hoaText (jobTable j) (j .condition) (j .needs))
+-- "20 comes first", 21, 22 and 23 line by line: what the reader refuses is printed as it is, with the column of the first fault; what it reads
+-- is written
+abbrev pub turned : Outcome → ℕ → List ℕ
+turned (fault number place) column = refusedText number place column
+turned (job j) column = writtenFor (refusal (jobTable j) (j .condition) (j .needs)) (hoaText (jobTable j) (j .condition) (j .needs))
 
 -- "a lent output has zeros from the end of what is written to its own end"
 pub record Stands (written out : List ℕ) (size : ℕ) : Type 0 where
@@ -29,4 +30,6 @@ pub record Stands (written out : List ℕ) (size : ℕ) : Type 0 where
 
 -- the whole promise, for every text: what the text is turned into, and nothing else, stands in `out`, and `size` is how long it is
 pub record Turned (text out : List ℕ) (size : ℕ) : Type 0 where
-  pub held : Stands (turned (readJob text)) out size
+  pub column : ℕ
+  pub first : Column text column
+  pub held : Stands (turned (readJob text) column) out size

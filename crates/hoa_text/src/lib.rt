@@ -13,12 +13,12 @@ ghost use Rattle.hoa_text.specs.Turned.{Stands, Turned};
 pub const MOST_WRITTEN: usize = 52205;
 
 // Prints a refusal's lines in place of the text.
-fn tell_refused(number: u32, place: u32, out: &mut [u8; MOST_WRITTEN]) -> usize
-    ensures { λ r. ⌜ Stands (refusedText number place) (now (out .exit)) r ⌝ }
+fn tell_refused(number: u32, place: u32, column: u32, out: &mut [u8; MOST_WRITTEN]) -> usize
+    ensures { λ r. ⌜ Stands (refusedText number place column) (now (out .exit)) r ⌝ }
 {
-    match print_refused(number, place, out) {
+    match print_refused(number, place, column, out) {
         Printed::Text { length } => length,
-        // never: its lines fit
+        // never: they fit
         Printed::Refused {
             number: _,
             place: _,
@@ -37,7 +37,7 @@ pub fn job_to_hoa(text: &[u8], out: &mut [u8; MOST_WRITTEN]) -> usize
     let job = read(text, &mut from, &mut to, &mut marks);
     let finding = job.finding;
     if let Finding::Refused { number, place } = finding {
-        return tell_refused(number, place, out);
+        return tell_refused(number, place, job.column, out);
     }
     let m = job.edges as usize;
     let condition = job.condition;
@@ -54,6 +54,6 @@ pub fn job_to_hoa(text: &[u8], out: &mut [u8; MOST_WRITTEN]) -> usize
     );
     match written {
         Written::Text { length } => length,
-        Written::Refused { number, place } => tell_refused(number, place, out),
+        Written::Refused { number, place } => tell_refused(number, place, 0, out),
     }
 }

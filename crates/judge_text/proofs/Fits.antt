@@ -22,6 +22,7 @@ use Rattle.marks.proofs.Cases.{below}
 use Rattle.job_text.specs.Job.{mostJobEdges}
 use Rattle.answer_text.specs.Printed.{answerText, refusedText, mostPrinted}
 use Rattle.answer_text.proofs.Room.{Brief, Briefs, enough}
+use Rattle.answer_text.proofs.Refusals.{refused-few}
 use Rattle.judging.specs.Answer.{Given, Named, ByCause}
 use Rattle.judge_text.specs.Replied.{lentRoom}
 use Rattle.judge_text.proofs.Lent.{permitted}
@@ -57,16 +58,16 @@ record Slight (v : Verdict) (room : List ℕ) : Type 0 where
   few : length room ≤ lentRoom
   brief : Briefs room
 
-slight-short : (v : Verdict) (depth : ℕ) (c : Acceptance) (room : List ℕ) → depth < 2 ^ 32 → Slight v room → length (answerText v depth c room) ≤ mostPrinted
-slight-short v depth c room d s = enough v depth c room (s .number) (s .place) (s .pair) d (s .few) (s .brief)
+slight-short : (v : Verdict) (depth : ℕ) (c : Acceptance) (room : List ℕ) → depth < 2 ^ 32 → Slight v room → length (answerText v 0 depth c room) ≤ mostPrinted
+slight-short v depth c room d s = enough v 0 depth c room (s .number) (s .place) (omega arith) (s .pair) d (s .few) (s .brief)
 
 -- ---- a refusal
 
 slight-refused : (number place : ℕ) (room : List ℕ) → number < 2 ^ 32 → place < 2 ^ 32 → length room ≤ lentRoom → Briefs room → Slight (RefusedVerdict number place) room
 slight-refused number place room n p few brief = record { number = n; place = p; pair = omega arith; few = few; brief = brief }
 
-pub refused-fits : (number place : ℕ) → number < 2 ^ 32 → place < 2 ^ 32 → length (refusedText number place) ≤ mostPrinted
-refused-fits number place n p = slight-short (RefusedVerdict number place) 0 (Buchi 0) [] (omega arith) (slight-refused number place [] n p (omega arith) (λ i. inl (omega arith)))
+pub refused-fits : (number place column : ℕ) → number < 2 ^ 32 → place < 2 ^ 32 → column < 2 ^ 32 → length (refusedText number place column) ≤ mostPrinted
+refused-fits number place column n p k = omega (arith, refused-few number place column n p k)
 
 -- ---- an answer
 
@@ -113,5 +114,5 @@ module _ (n start : ℕ) (from to marks : List ℕ) (c : Acceptance) (needs : Li
       rw (K .says, K .room-kept) (slight-refused number place room (omega (arith, row .most)) place-few long (rw is-room (brief-zeros lentRoom)))
 
   pub answer-fits : (v : Verdict) (depth : ℕ) → depth < 2 ^ 32 → ByCause (refusal (lent n start from to marks) c needs) (lent n start from to marks) c needs room room' scratch scratch' v
-      → length (answerText v depth c room') ≤ mostPrinted
+      → length (answerText v 0 depth c room') ≤ mostPrinted
   answer-fits v depth d B = slight-short v depth c room' d (cause-slight (refusal (lent n start from to marks) c needs) v refl B)

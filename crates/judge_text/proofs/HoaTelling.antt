@@ -21,7 +21,7 @@ use Rattle.hoa.proofs.Lawful.{Lawful, lawful}
 use Rattle.hoa.proofs.Places.{fault-within}
 use Rattle.job_text.specs.Asked.{jobTable}
 use Rattle.judge_text.specs.Replied.{ReplyTo, Holds}
-use Rattle.judge_text.specs.HoaReplied.{mostHoaBytes, hoaOutcome, HoaReplied}
+use Rattle.judge_text.specs.HoaReplied.{mostHoaBytes, hoaOutcome, NoColumn, HoaReplied}
 use Rattle.judge_text.specs.inner.{Judged}
 use Rattle.job_text.proofs.Tables.{part-is}
 use Rattle.judge_text.proofs.Telling.{job-reply}
@@ -31,7 +31,7 @@ use Rattle.judge_text.proofs.Telling.{job-reply}
 unlike : {number place : ℕ} → Refused number place ≡ Read → ⊥
 unlike e = let z : _≡_ {A = ℕ} 0 1 = cc in omega arith
 
-same-text : {number place x p : ℕ} → Refused number place ≡ Refused x p → refusedText number place ≡ refusedText x p
+same-text : {number place x p : ℕ} → Refused number place ≡ Refused x p → refusedText number place 0 ≡ refusedText x p 0
 same-text {number} {place} {x} {p} q = let a : number ≡ x = cc in let b : place ≡ p = cc in rw (a, b)
 
 same-place : {number place x p : ℕ} → Refused number place ≡ Refused x p → place ≡ p
@@ -39,8 +39,8 @@ same-place {number} {place} {x} {p} q = cc
 
 -- ---- a text that is too long
 
-pub hoa-too-long : {text out : List ℕ} {size : ℕ} → mostHoaBytes < length text → Holds (refusedText 42 mostHoaBytes) out size → HoaReplied text out size
-hoa-too-long {text} l H = record { printed = refusedText 42 mostHoaBytes; says = rw (lt-ltb mostHoaBytes (length text) l); held = H }
+pub hoa-too-long : {text out : List ℕ} {size : ℕ} → mostHoaBytes < length text → Holds (refusedText 42 mostHoaBytes 0) out size → HoaReplied text out size
+hoa-too-long {text} l H = record { printed = refusedText 42 mostHoaBytes 0; says = rw (lt-ltb mostHoaBytes (length text) l) (record { column = 0; first = refl; is = refl }); held = H }
 
 -- ---- what was read, in tables of 512 cells
 
@@ -83,17 +83,17 @@ module _ {text b b' b'' from to marks : List ℕ} {r : Hoa} (wide : length b ≡
 
   -- ---- what the reader refuses
 
-  refused-by : (o : Outcome) → Came o → {number place : ℕ} → r .finding ≡ Refused number place → ReplyTo o (refusedText number place) × (place ≤ length text)
+  refused-by : (o : Outcome) → Came o → {number place : ℕ} → r .finding ≡ Refused number place → ReplyTo NoColumn o (refusedText number place 0) × (place ≤ length text)
   refused-by (job j) c f = absurd (unlike (sym f ∙ ap (λ (x : Hoa). x .finding) (c .0)))
   refused-by (fault x p) c f =
       let q = sym f ∙ ap (λ (h : Hoa). h .finding) (c .0) in
-      (same-text q, omega (arith, c .1, same-place q))
+      (record { column = 0; first = refl; is = same-text q }, omega (arith, c .1, same-place q))
 
   pub hoa-place : {number place : ℕ} → r .finding ≡ Refused number place → place ≤ mostHoaBytes
   hoa-place f = omega (arith, short, refused-by (readHoa text) here f .1)
 
-  pub hoa-refused : {number place : ℕ} {out : List ℕ} {size : ℕ} → r .finding ≡ Refused number place → Holds (refusedText number place) out size → HoaReplied text out size
-  hoa-refused {number} {place} f H = record { printed = refusedText number place; says = rw outcome (refused-by (readHoa text) here f .0); held = H }
+  pub hoa-refused : {number place : ℕ} {out : List ℕ} {size : ℕ} → r .finding ≡ Refused number place → Holds (refusedText number place 0) out size → HoaReplied text out size
+  hoa-refused {number} {place} f H = record { printed = refusedText number place 0; says = rw outcome (refused-by (readHoa text) here f .0); held = H }
 
   -- ---- what is judged
 
@@ -151,7 +151,7 @@ module _ {text b b' b'' from to marks : List ℕ} {r : Hoa} (wide : length b ≡
   -- a reply, and where it stands
   record HoaReply (o : Outcome) (out : List ℕ) (size : ℕ) : Type 0 where
     printed : List ℕ
-    says : ReplyTo o printed
+    says : ReplyTo NoColumn o printed
     held : Holds printed out size
 
   judged-by : (o : Outcome) → Came o → {out : List ℕ} {size : ℕ} → r .finding ≡ Read → LentHoa out size → HoaReply o out size

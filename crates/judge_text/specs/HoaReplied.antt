@@ -1,4 +1,5 @@
 -- From bytes to bytes: what is printed for a text of the Hanoi format, every text (docs/RULES.md, "The Hanoi format"). Assumes nothing.
+use mathlib.Core.Path.{_≡_}
 use mathlib.Core.Bool.{cond}
 use mathlib.Core.List.{List}
 use Prim.Native.Nat.{ℕ}
@@ -16,9 +17,13 @@ mostHoaBytes = 1048576
 abbrev pub hoaOutcome : List ℕ → Outcome
 hoaOutcome text = cond (ltb mostHoaBytes (length text)) (fault 42 mostHoaBytes) (readHoa text)
 
+-- "column 0": the place is a byte already
+abbrev pub NoColumn : ℕ → Type 0
+NoColumn column = column ≡ 0
+
 -- the whole promise, for every text: what the reader refuses is printed as it is, what it reads is judged; what the text is answered, and nothing else,
 -- stands in `out`, and `size` is how long it is
 pub record HoaReplied (text out : List ℕ) (size : ℕ) : Type 0 where
   pub printed : List ℕ
-  pub says : ReplyTo (hoaOutcome text) printed
+  pub says : ReplyTo NoColumn (hoaOutcome text) printed
   pub held : Holds printed out size

@@ -8,7 +8,7 @@ use Rattle.table.specs.declared.Acceptance.{Acceptance}
 use Rattle.table.specs.declared.Finding.the-variants.{Sound, Refused}
 use Rattle.table.specs.declared.Verdict.{Verdict}
 use Rattle.table.specs.declared.Verdict.the-variants.{Run}
-use Rattle.job_text.specs.Job.{Job, job, readJob}
+use Rattle.job_text.specs.Job.{Job, job, readJob, Column}
 use Rattle.job_text.specs.Asked.{jobTable, firstCause}
 use Rattle.answer_text.specs.Printed.{topText, bottomText, answerText, refusedText}
 use Rattle.erasing.specs.Depth.{Deep}
@@ -18,13 +18,15 @@ use Rattle.judging.specs.Answer.{Decided}
 abbrev pub TextRow : ℕ → Type 0
 TextRow number = ((1 ≤ number) × (number ≤ 7)) ⊎ ((20 ≤ number) × (number ≤ 23))
 
--- one numbered refusal: that of the first cause, and no other
+-- one numbered refusal: that of the first cause, and no other, with the text's column (0 where the text says a job)
 pub record RefusedFor (text printed : List ℕ) : Type 0 where
   pub number : ℕ
   pub place : ℕ
+  pub column : ℕ
   pub cause : firstCause (readJob text) ≡ Refused number place
   pub row : TextRow number
-  pub is : printed ≡ refusedText number place
+  pub first : Column text column
+  pub is : printed ≡ refusedText number place column
 
 -- an answer: the text says a job, no row refuses it, the printed verdict is decided: a run with an accepted lasso, or empty, when no lasso is accepted; and the
 -- printed depth is the erasing's
@@ -37,9 +39,9 @@ pub record Answered (text printed : List ℕ) : Type 0 where
   pub room : List ℕ
   pub decided : Decided (jobTable asked) (asked .condition) (asked .needs) verdict room
   pub deep : Deep (jobTable asked) (asked .condition) verdict depth
-  pub is : printed ≡ answerText verdict depth (asked .condition) room
+  pub is : printed ≡ answerText verdict 0 depth (asked .condition) room
 
--- two runs that differ in their lassos at most: the lines of verdict, code, place, pair and depth are the same
+-- two runs that differ in their lassos at most: the lines of verdict, code, place, column, pair and depth are the same
 pub record TwoRuns (printed printed' : List ℕ) : Type 0 where
   pub condition : Acceptance
   pub pair : ℕ
@@ -48,5 +50,5 @@ pub record TwoRuns (printed printed' : List ℕ) : Type 0 where
   pub cycle : List ℕ
   pub prefix' : List ℕ
   pub cycle' : List ℕ
-  pub first : printed ≡ topText (Run 0 0 pair) depth condition ++ bottomText prefix cycle
-  pub second : printed' ≡ topText (Run 0 0 pair) depth condition ++ bottomText prefix' cycle'
+  pub first : printed ≡ topText (Run 0 0 pair) 0 depth condition ++ bottomText prefix cycle
+  pub second : printed' ≡ topText (Run 0 0 pair) 0 depth condition ++ bottomText prefix' cycle'

@@ -15,4 +15,4 @@ pub record Judged (t : Table) (c : Acceptance) (needs out : List ℕ) (size : �
   pub room : List ℕ
   pub scratch : List ℕ
   pub allowed : Answers t c needs (replicate lentRoom 0) room (replicate lentScratch 0) scratch answer
-  pub held : Holds (answerText (answer .verdict) (answer .depth) c room) out size
+  pub held : Holds (answerText (answer .verdict) 0 (answer .depth) c room) out size

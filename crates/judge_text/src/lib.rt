@@ -3,13 +3,13 @@
 // `hoa`: specs/HoaReplied.antt.
 use answer_text::Printed;
 use answer_text::print;
+use answer_text::print_refused;
 use hoa::HoaFinding;
 use hoa::read_hoa;
 use job_text::reader::read;
 use table::Acceptance;
 use table::Answer;
 use table::Finding;
-use table::Verdict;
 ghost use Prim.Native.Nat.{_≤_};
 ghost use lib.ListN.{length};
 ghost use Rattle.answer_text.specs.Printed.{answerText, refusedText, mostPrinted};
@@ -32,8 +32,8 @@ const LENT_SCRATCH: usize = 4160;
 
 // Prints an answer that fits.
 fn show(answer: Answer, condition: Acceptance, room: &[u32], out: &mut [u8; MOST_PRINTED]) -> usize
-    requires { ⌜ length (answerText (answer .verdict) (answer .depth) condition (now room)) ≤ mostPrinted ⌝ }
-    ensures { λ r. ⌜ Holds (answerText (answer .verdict) (answer .depth) condition (now (room .entry))) (now (out .exit)) r ⌝ }
+    requires { ⌜ length (answerText (answer .verdict) 0 (answer .depth) condition (now room)) ≤ mostPrinted ⌝ }
+    ensures { λ r. ⌜ Holds (answerText (answer .verdict) 0 (answer .depth) condition (now (room .entry))) (now (out .exit)) r ⌝ }
 {
     match print(answer, condition, room, out) {
         Printed::Text { length } => length,
@@ -46,15 +46,17 @@ fn show(answer: Answer, condition: Acceptance, room: &[u32], out: &mut [u8; MOST
 }
 
 // Prints what the reader refuses.
-fn show_refused(number: u32, place: u32, out: &mut [u8; MOST_PRINTED]) -> usize
-    ensures { λ r. ⌜ Holds (refusedText number place) (now (out .exit)) r ⌝ }
+fn show_refused(number: u32, place: u32, column: u32, out: &mut [u8; MOST_PRINTED]) -> usize
+    ensures { λ r. ⌜ Holds (refusedText number place column) (now (out .exit)) r ⌝ }
 {
-    let room = [0u32; 0];
-    let refused = Answer {
-        verdict: Verdict::Refused { number, place },
-        depth: 0,
-    };
-    show(refused, Acceptance::Buchi(0), &room, out)
+    match print_refused(number, place, column, out) {
+        Printed::Text { length } => length,
+        // never: it fits
+        Printed::Refused {
+            number: _,
+            place: _,
+        } => 0,
+    }
 }
 
 // Judges a table within a job's limits and prints the answer.
@@ -98,7 +100,7 @@ pub fn judge_text(text: &[u8], out: &mut [u8; MOST_PRINTED]) -> usize
     let job = read(text, &mut from, &mut to, &mut marks);
     let finding = job.finding;
     if let Finding::Refused { number, place } = finding {
-        return show_refused(number, place, out);
+        return show_refused(number, place, job.column, out);
     }
     let m = job.edges as usize;
     let condition = job.condition;
@@ -121,7 +123,7 @@ pub fn judge_hoa(text: &[u8], out: &mut [u8; MOST_PRINTED]) -> usize
     ensures { λ r. ⌜ HoaReplied (now (text .entry)) (now (out .exit)) r ⌝ }
 {
     if MOST_HOA < text.len() {
-        return show_refused(42, 1048576, out);
+        return show_refused(42, 1048576, 0, out);
     }
     let mut from = [0u32; 512];
     let mut to = [0u32; 512];
@@ -129,7 +131,7 @@ pub fn judge_hoa(text: &[u8], out: &mut [u8; MOST_PRINTED]) -> usize
     let hoa = read_hoa(text, &mut from, &mut to, &mut marks);
     let finding = hoa.finding;
     if let HoaFinding::Refused { number, place } = finding {
-        return show_refused(number, place as u32, out);
+        return show_refused(number, place as u32, 0, out);
     }
     let m = hoa.edges as usize;
     let condition = hoa.condition;

@@ -13,14 +13,15 @@ use Rattle.table.specs.declared.Verdict.{Verdict}
 use Rattle.table.specs.declared.Verdict.the-variants as verdict
 use Rattle.table.proofs.Sound.{Fit, sound-fit}
 use Rattle.job_text.specs.Value.{mostNumber}
-use Rattle.job_text.specs.Job.{Job, Outcome, job, fault, readJob}
+use Rattle.job_text.specs.Job.{Job, Outcome, job, fault, readJob, Column}
 use Rattle.job_text.specs.Asked.{jobTable, edgeCells, firstCause}
+use Rattle.job_text.proofs.Promises.{one-column}
 use Rattle.answer_text.specs.Printed.{topText, answerText, refusedText, mostPrinted}
 use Rattle.erasing.specs.Depth.{Deep}
 use Rattle.judging.specs.Answer.{Decided, RunSays}
 use Rattle.judge_text.specs.Replied.{Holds, Replied}
 use Rattle.judge_text.specs.Reply.{RefusedFor, Answered}
-use Rattle.judge_text.proofs.Replies.{answered-or-refused}
+use Rattle.judge_text.proofs.Replies.{job-column, answered-or-refused}
 use Rattle.answer_check.specs.declared.Checked.{Checked}
 use Rattle.answer_check.specs.declared.Checked.the-variants as checked
 use Rattle.answer_form.specs.Form.{run, empty, Says, NoRun}
@@ -32,11 +33,11 @@ use Rattle.own_answers.proofs.Runs.{depth-within, named-met, run-says}
 
 -- ---- the first line
 
-run-begins : (p q pair depth : ℕ) (c : Acceptance) (room : List ℕ) → Begins (verdict.Run 0 0 0) (answerText (verdict.Run p q pair) depth c room)
+run-begins : (p q pair depth : ℕ) (c : Acceptance) (room : List ℕ) → Begins (verdict.Run 0 0 0) (answerText (verdict.Run p q pair) 0 depth c room)
 unfolding answerText topText
 run-begins p q pair depth c room = refl
 
-empty-begins : (depth : ℕ) (c : Acceptance) (room : List ℕ) → Begins verdict.Empty (answerText verdict.Empty depth c room)
+empty-begins : (depth : ℕ) (c : Acceptance) (room : List ℕ) → Begins verdict.Empty (answerText verdict.Empty 0 depth c room)
 unfolding answerText topText
 empty-begins depth c room = refl
 
@@ -48,19 +49,22 @@ empty-not-run text e r =
     omega (arith, m, u)
 
 -- .. and from `refused`
-refused-not-run : (number place : ℕ) → Begins (verdict.Run 0 0 0) (refusedText number place) → ⊥
+refused-not-run : (number place column : ℕ) → Begins (verdict.Run 0 0 0) (refusedText number place column) → ⊥
 unfolding answerText topText
-refused-not-run number place r = let z : _≡_ {A = ℕ} 101 117 = ap (λ (bs : List ℕ). getD bs 9 0) r in absurd (omega arith)
+refused-not-run number place column r = let z : _≡_ {A = ℕ} 101 117 = ap (λ (bs : List ℕ). getD bs 9 0) r in absurd (omega arith)
 
 -- ---- a refused job
 
-told-again : (o : Outcome) (answer : List ℕ) (number place : ℕ) (r : Checked) → firstCause o ≡ Refused number place → ByJob o answer r → r ≡ checked.Refused number place
-told-again (fault x y) answer number place r e T =
+told-again : (text : List ℕ) (o : Outcome) → readJob text ≡ o → (answer : List ℕ) (number place column : ℕ) (r : Checked) → firstCause o ≡ Refused number place → Column text column
+    → ByJob text o answer r → r ≡ checked.Refused number place column
+told-again text (fault x y) q answer number place column r e k T =
     let a : x ≡ number = cc in
     let b : y ≡ place = cc in
-    T ∙ rw (a, b)
-told-again (job j) answer number place r e T =
-    subst (λ (f : Finding). ByCause f (jobTable j) (j .condition) (j .needs) answer r) e T
+    let d : T .column ≡ column = one-column text (T .column) column (T .first) k in
+    T .told ∙ rw (a, b, d)
+told-again text (job j) q answer number place column r e k T =
+    let told : r ≡ checked.Refused number place 0 = subst (λ (f : Finding). ByCause f (jobTable j) (j .condition) (j .needs) answer r) e T in
+    told ∙ ap (checked.Refused number place) (one-column text 0 column (job-column text j q) k)
 
 -- ---- an answered job
 
@@ -71,7 +75,7 @@ module _ (text printed : List ℕ) (j : Job) (read : readJob text ≡ job j) (so
 
   -- a run names an accepted lasso
   run-named : (p q pair : ℕ) (room : List ℕ) (R : RunSays (jobTable j) (j .condition) (j .needs) p q pair room)
-      → printed ≡ answerText (verdict.Run p q pair) 0 (j .condition) room → NamesAccepted text printed
+      → printed ≡ answerText (verdict.Run p q pair) 0 0 (j .condition) room → NamesAccepted text printed
   run-named p q pair room R is =
       let says = run-says (jobTable j) (j .condition) (j .needs) (fit .proper .few-edges) (fit .condition) R in
       record {
@@ -87,27 +91,27 @@ module _ (text printed : List ℕ) (j : Job) (read : readJob text ≡ job j) (so
       }
 
   -- empty is no run
-  empty-said : (depth : ℕ) (room : List ℕ) → depth ≤ mostNumber → printed ≡ answerText verdict.Empty depth (j .condition) room → NoRun (j .condition) printed
+  empty-said : (depth : ℕ) (room : List ℕ) → depth ≤ mostNumber → printed ≡ answerText verdict.Empty 0 depth (j .condition) room → NoRun (j .condition) printed
   unfolding answerText
   empty-said depth room l is = record { said = empty depth; says = record { ours = l; prints = is }; other = λ pair prefix cycle e. let z : _≡_ {A = ℕ} 0 1 = cc in omega arith }
 
-  empty-told : NoRun (j .condition) printed → Checks text printed (checked.Refused 51 0)
+  empty-told : NoRun (j .condition) printed → Checks text printed (checked.Refused 51 0 0)
   empty-told N =
-      let told : Told (jobTable j) (j .condition) (j .needs) printed (checked.Refused 51 0) = no-run N refl in
-      let caused : ByJob (job j) printed (checked.Refused 51 0) =
-      subst (λ (f : Finding). ByCause f (jobTable j) (j .condition) (j .needs) printed (checked.Refused 51 0)) (sym sound) told in
-      subst (λ (o : Outcome). ByJob o printed (checked.Refused 51 0)) (sym read) caused
+      let told : Told (jobTable j) (j .condition) (j .needs) printed (checked.Refused 51 0 0) = no-run N refl in
+      let caused : ByJob text (job j) printed (checked.Refused 51 0 0) =
+      subst (λ (f : Finding). ByCause f (jobTable j) (j .condition) (j .needs) printed (checked.Refused 51 0 0)) (sym sound) told in
+      subst (λ (o : Outcome). ByJob text o printed (checked.Refused 51 0 0)) (sym read) caused
 
   by-verdict : (v : Verdict) (depth : ℕ) (room : List ℕ) → Decided (jobTable j) (j .condition) (j .needs) v room → Deep (jobTable j) (j .condition) v depth
-      → printed ≡ answerText v depth (j .condition) room → (r : Checked) → Checks text printed r → OwnSaid text printed r
+      → printed ≡ answerText v 0 depth (j .condition) room → (r : Checked) → Checks text printed r → OwnSaid text printed r
   by-verdict (verdict.Run p q pair) depth room R flat is r T =
-      let printed-flat = is ∙ ap (λ (d : ℕ). answerText (verdict.Run p q pair) d (j .condition) room) flat in
+      let printed-flat = is ∙ ap (λ (d : ℕ). answerText (verdict.Run p q pair) 0 d (j .condition) room) flat in
       own.run (subst (Begins (verdict.Run 0 0 0)) (sym is) (run-begins p q pair depth (j .condition) room))
       (accepted-exactly text printed r T .1 (run-named p q pair room R printed-flat))
   by-verdict verdict.Empty depth room D deep is r T =
       let within = depth-within (jobTable j) (j .condition) (j .needs) depth (fit .condition) (D .0) deep in
       own.empty (subst (Begins verdict.Empty) (sym is) (empty-begins depth (j .condition) room))
-      (checks-once text printed r (checked.Refused 51 0) T (empty-told (empty-said depth room within is)))
+      (checks-once text printed r (checked.Refused 51 0 0) T (empty-told (empty-said depth room within is)))
   by-verdict (verdict.Refused number place) depth room D deep is r T = absurd D
 
 -- ---- every job text
@@ -115,7 +119,8 @@ module _ (text printed : List ℕ) (j : Job) (read : readJob text ≡ job j) (so
 by-reply : (text printed : List ℕ) (r : Checked) → Checks text printed r → Answered text printed ⊎ RefusedFor text printed → OwnSaid text printed r
 by-reply text printed r T (inl A) = by-verdict text printed (A .asked) (A .read) (A .sound) (A .verdict) (A .depth) (A .room) (A .decided) (A .deep) (A .is) r T
 by-reply text printed r T (inr F) =
-    own.refused (F .number) (F .place) (F .cause) (F .is) (told-again (readJob text) printed (F .number) (F .place) r (F .cause) T)
+    own.refused (F .number) (F .place) (F .column) (F .cause) (F .first) (F .is)
+    (told-again text (readJob text) refl printed (F .number) (F .place) (F .column) r (F .cause) (F .first) T)
 
 -- the first `size` bytes are the answer
 printed-is : {printed out : List ℕ} {size : ℕ} → Holds printed out size → take size out ≡ printed
@@ -129,15 +134,15 @@ own-says text out size R r T =
     subst (λ (bs : List ℕ). OwnSaid text bs r) (sym is)
     (by-reply text (R .printed) r (subst (λ (bs : List ℕ). Checks text bs r) is T) (answered-or-refused text out size R))
 
-not-accepted : {number place : ℕ} → checked.Refused number place ≡ checked.Accepted → ⊥
+not-accepted : {number place column : ℕ} → checked.Refused number place column ≡ checked.Accepted → ⊥
 not-accepted e = let z : _≡_ {A = ℕ} 0 1 = cc in omega arith
 
 -- accepted exactly if it is a run
 run-exactly : (text printed : List ℕ) (r : Checked) → OwnSaid text printed r → (r ≡ checked.Accepted) ↔ Begins (verdict.Run 0 0 0) printed
 run-exactly text printed r (own.run b e) = (λ a. b, λ c. e)
 run-exactly text printed r (own.empty b e) = (λ a. absurd (not-accepted (sym e ∙ a)), λ c. absurd (empty-not-run printed b c))
-run-exactly text printed r (own.refused number place f is e) =
-    (λ a. absurd (not-accepted (sym e ∙ a)), λ c. absurd (refused-not-run number place (subst (Begins (verdict.Run 0 0 0)) is c)))
+run-exactly text printed r (own.refused number place column f k is e) =
+    (λ a. absurd (not-accepted (sym e ∙ a)), λ c. absurd (refused-not-run number place column (subst (Begins (verdict.Run 0 0 0)) is c)))
 
 -- the whole statement
 pub own-answers : OwnAnswers

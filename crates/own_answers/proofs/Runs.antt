@@ -65,7 +65,7 @@ named-met t (Rabin p) needs cycle pair a l = (l .below, l .met)
 
 -- of the room only prefix and cycle are printed
 lists-printed : (c : Acceptance) (pair : ℕ) (p q rest : List ℕ)
-    → answerText (Run (length p) (length q) pair) 0 c (p ++ (q ++ rest)) ≡ answerText (Run (length p) (length q) pair) 0 c (p ++ q)
+    → answerText (Run (length p) (length q) pair) 0 0 c (p ++ (q ++ rest)) ≡ answerText (Run (length p) (length q) pair) 0 0 c (p ++ q)
 unfolding answerText
 lists-printed c pair p q rest =
     rw (take-append-seam p (q ++ rest), drop-append-seam p (q ++ rest), take-append-seam q rest, take-append-seam p q, drop-append-seam p q, take-length q)
@@ -84,10 +84,10 @@ module _ (t : Table) (c : Acceptance) (needs : List ℕ) (few : t .edges ≤ mos
 
   -- its text says the lasso that the judge found
   pub run-says : {p q pair : ℕ} {room : List ℕ} (R : RunSays t c needs p q pair room)
-      → Says c (answerText (Run p q pair) 0 c room) (run pair (R .prefix) (R .cycle))
+      → Says c (answerText (Run p q pair) 0 0 c room) (run pair (R .prefix) (R .cycle))
   run-says {p} {q} {pair} {room} R =
       record {
         ours = our-run R;
-        prints = rw (sym (R .prefix-is), sym (R .cycle-is)) (ap (answerText (Run (length (R .prefix)) (length (R .cycle)) pair) 0 c) (R .cells)
+        prints = rw (sym (R .prefix-is), sym (R .cycle-is)) (ap (answerText (Run (length (R .prefix)) (length (R .cycle)) pair) 0 0 c) (R .cells)
             ∙ lists-printed c pair (R .prefix) (R .cycle) (replicate (length room - (p + q)) 0));
       }

@@ -8,7 +8,7 @@ use lib.ListN.{length, take}
 use Rattle.table.specs.declared.Finding.the-variants as finding
 use Rattle.table.specs.declared.Verdict.{Verdict}
 use Rattle.table.specs.declared.Verdict.the-variants.{Run, Empty}
-use Rattle.job_text.specs.Job.{readJob}
+use Rattle.job_text.specs.Job.{readJob, Column}
 use Rattle.job_text.specs.Asked.{firstCause}
 use Rattle.answer_text.specs.Printed.{shown, verdict=, verdictWord, refusedText}
 use Rattle.judge_text.specs.Replied.{Replied}
@@ -23,9 +23,9 @@ Begins v text = take (length (shown verdict= (verdictWord v))) text ≡ shown ve
 -- a run is accepted; empty is no run (51); a refusal is the job's own, and it is told again
 pub data OwnSaid (text printed : List ℕ) (r : Checked) : Type 0 where
   run : Begins (Run 0 0 0) printed → r ≡ Accepted → OwnSaid text printed r
-  empty : Begins Empty printed → r ≡ Refused 51 0 → OwnSaid text printed r
-  refused : (number place : ℕ) → firstCause (readJob text) ≡ finding.Refused number place → printed ≡ refusedText number place → r ≡ Refused number place
-      → OwnSaid text printed r
+  empty : Begins Empty printed → r ≡ Refused 51 0 0 → OwnSaid text printed r
+  refused : (number place column : ℕ) → firstCause (readJob text) ≡ finding.Refused number place → Column text column → printed ≡ refusedText number place column
+      → r ≡ Refused number place column → OwnSaid text printed r
 
 -- for every job text, and every answer to it that the judge's promise allows: the first `size` bytes of `out`
 pub record OwnAnswers : Type 0 where

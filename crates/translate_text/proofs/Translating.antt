@@ -42,14 +42,14 @@ use Rattle.translate_text.specs.inner.{writtenTable}
 
 -- ---- what is printed
 
--- its lines stand in the output
+-- a refusal's lines stand in the output
 pub told-stands : {text out out' : List ℕ} {r : Printed} {size : ℕ} → length out ≡ mostBytes → length text ≤ length out → Prints text out out' r
     → r ≡ printed.Text size → Stands mostBytes text out' size
 told-stands wide fits P e = let all = printed-all fits P e in record { all = all .0; cells = all .1 ∙ rw wide }
 
 -- what is told lies within what was lent
 pub turned-within : {text out : List ℕ} {size : ℕ} → Turned text out size → size ≤ length out
-turned-within {text} {size = size} T = omega (arith, T .held .all, ap length (T .held .cells), length-append (turned (readJob text)) (replicate (mostBytes - size) 0))
+turned-within {text} {size = size} T = omega (arith, T .held .all, ap length (T .held .cells), length-append (turned (readJob text) (T .column)) (replicate (mostBytes - size) 0))
 
 -- ---- what the writer gives
 
@@ -72,7 +72,7 @@ module _ (t : Table) (out : List ℕ) (wide : length out ≡ mostBytes) where
 
   -- the refusal is the one to be told
   pub refusal-stands : {out' out'' : List ℕ} {w : Written} {number place size : ℕ} → Writes t out out' w → w ≡ written.Refused number place
-      → Stands mostBytes (refusedText number place) out'' size → Stands mostBytes (writtenTable t) out'' size
+      → Stands mostBytes (refusedText number place 0) out'' size → Stands mostBytes (writtenTable t) out'' size
   refusal-stands {out'} {out''} {w} {number} {place} {size} W q S = by (writeRefusal t mostBytes) refl (sym q ∙ W .answer ∙ ap (writtenOf (jobText t)) here)
     where
       by : (f : Finding) → writeRefusal t mostBytes ≡ f → written.Refused number place ≡ writtenOf (jobText t) f → Stands mostBytes (writtenTable t) out'' size
@@ -80,7 +80,7 @@ module _ (t : Table) (out : List ℕ) (wide : length out ≡ mostBytes) where
       by (Refused x p) e a =
           let n : number ≡ x = cc in
           let m : place ≡ p = cc in
-          let is : writtenTable t ≡ refusedText number place = ap (λ (f : Finding). toldOr f (jobText t)) e ∙ rw (n, m) in
+          let is : writtenTable t ≡ refusedText number place 0 = ap (λ (f : Finding). toldOr f (jobText t)) e ∙ rw (n, m) in
           rw is S
 
 -- ---- what the translation gives
@@ -116,7 +116,7 @@ module _ (n start : ℕ) (from to marks : List ℕ) (k : ℕ) (l a b : List ℕ)
   t = lent n start from to marks
 
   -- it is refused, and the refusal stands in the output
-  pub refused-stands : {number place : ℕ} {out : List ℕ} {size : ℕ} → r ≡ translation.Refused number place → Stands mostBytes (refusedText number place) out size
+  pub refused-stands : {number place : ℕ} {out : List ℕ} {size : ℕ} → r ≡ translation.Refused number place → Stands mostBytes (refusedText number place 0) out size
       → Stands mostBytes (turnedTable (lent n start from to marks) k) out size
   unfolding t
   refused-stands {number} {place} e S =
@@ -125,7 +125,7 @@ module _ (n start : ℕ) (from to marks : List ℕ) (k : ℕ) (l a b : List ℕ)
       let is : cause t k ≡ Refused number place =
       cause-by (refusal t (Buchi k) []) (large (u .states) (u .edges)) (short (u .edges) mostEdges mostEdges mostEdges) (u .states) (u .edges) (u .start) number place _
       (lent-enough (u .states) (u .edges)) answered in
-      let told : turnedTable t k ≡ refusedText number place = ap (λ (f : Finding). toldOr f (jobText u)) is in
+      let told : turnedTable t k ≡ refusedText number place 0 = ap (λ (f : Finding). toldOr f (jobText u)) is in
       rw told S
 
   module _ (states edges first : ℕ) (e : r ≡ translation.Made states edges first) where
@@ -174,41 +174,42 @@ module _ (n start : ℕ) (from to marks : List ℕ) (k : ℕ) (l a b : List ℕ)
 -- ---- for any text that is read
 
 -- what the reader refuses
-refused-by : (o : Text) (r : Reading) (number place : ℕ) → r ≡ readingOf o (r .column) → r .finding ≡ Refused number place → turned o ≡ refusedText number place
-refused-by (job j) r number place e f = absurd (unlike (sym f ∙ ap (λ (x : Reading). x .finding) e))
-refused-by (fault x p) r number place e f = same-text (sym (ap (λ (x : Reading). x .finding) e) ∙ f)
+refused-by : (o : Text) (r : Reading) (number place column : ℕ) → r ≡ readingOf o column → r .finding ≡ Refused number place
+    → turned o column ≡ refusedText number place column
+refused-by (job j) r number place column e f = absurd (unlike (sym f ∙ ap (λ (x : Reading). x .finding) e))
+refused-by (fault x p) r number place column e f = same-text (sym (ap (λ (x : Reading). x .finding) e) ∙ f) refl
 
 -- what it reads, by the parts of the tables that hold edges
-read-by : (o : Text) (r : Reading) (b b' b'' from to marks : List ℕ) → r ≡ readingOf o (r .column) → r .finding ≡ Sound → from ≡ cellsOf (λ e. e .from) o b
+read-by : (o : Text) (r : Reading) (b b' b'' from to marks : List ℕ) (column : ℕ) → r ≡ readingOf o column → r .finding ≡ Sound → from ≡ cellsOf (λ e. e .from) o b
     → to ≡ cellsOf (λ e. e .to) o b' → marks ≡ cellsOf (λ e. e .marks) o b''
-    → turned o ≡ turnedBy (r .condition) (lent (r .states) (r .start) (take (r .edges - 0) (drop 0 from)) (take (r .edges - 0) (drop 0 to)) (take (r .edges - 0) (drop 0 marks)))
-read-by (fault number place) r b b' b'' from to marks e s f g h = absurd (unlike (sym (ap (λ (x : Reading). x .finding) e) ∙ s))
-read-by (job j) r b b' b'' from to marks e s f g h =
+    → turned o column ≡ turnedBy (r .condition) (lent (r .states) (r .start) (take (r .edges - 0) (drop 0 from)) (take (r .edges - 0) (drop 0 to)) (take (r .edges - 0) (drop 0 marks)))
+read-by (fault number place) r b b' b'' from to marks column e s f g h = absurd (unlike (sym (ap (λ (x : Reading). x .finding) e) ∙ s))
+read-by (job j) r b b' b'' from to marks column e s f g h =
     rw (e, f, g, h, part-is (λ (e : Edge). e .from) (j .edges), part-is (λ (e : Edge). e .to) (j .edges), part-is (λ (e : Edge). e .marks) (j .edges))
 
 module _ {text b b' b'' from to marks : List ℕ} {r : Reading} (R : Read text b b' b'' from to marks r) where
   -- the reader refuses, and the refusal stands in the output
-  pub reader-refuses : {number place : ℕ} {out : List ℕ} {size : ℕ} → r .finding ≡ Refused number place → Stands mostBytes (refusedText number place) out size
+  pub reader-refuses : {number place : ℕ} {out : List ℕ} {size : ℕ} → r .finding ≡ Refused number place → Stands mostBytes (refusedText number place (r .column)) out size
       → Turned text out size
-  reader-refuses {number} {place} f S = record { held = rw (refused-by (readJob text) r number place (R .reading) f) S }
+  reader-refuses {number} {place} f S = record { column = r .column; first = R .column; held = rw (refused-by (readJob text) r number place (r .column) (R .reading) f) S }
 
   -- the table in the parts of the tables that hold edges
   abbrev pub held : Table
   held = lent (r .states) (r .start) (take (r .edges - 0) (drop 0 from)) (take (r .edges - 0) (drop 0 to)) (take (r .edges - 0) (drop 0 marks))
 
   module _ (sound : r .finding ≡ Sound) where
-    by-kind : turned (readJob text) ≡ turnedBy (r .condition) held
-    by-kind = read-by (readJob text) r b b' b'' from to marks (R .reading) sound (R .froms) (R .tos) (R .sets)
+    by-kind : turned (readJob text) (r .column) ≡ turnedBy (r .condition) held
+    by-kind = read-by (readJob text) r b b' b'' from to marks (r .column) (R .reading) sound (R .froms) (R .tos) (R .sets)
 
     -- a job of the kind buchi
     pub buchi-turned : {k : ℕ} {out : List ℕ} {size : ℕ} → r .condition ≡ Buchi k
         → Stands mostBytes (turnedTable held k) out size
         → Turned text out size
-    buchi-turned e S = record { held = rw (by-kind, e) S }
+    buchi-turned e S = record { column = r .column; first = R .column; held = rw (by-kind, e) S }
 
     -- of another kind
-    pub streett-turned : {p : ℕ} {out : List ℕ} {size : ℕ} → r .condition ≡ Streett p → Stands mostBytes (refusedText 4 0) out size → Turned text out size
-    streett-turned e S = record { held = rw (by-kind, e) S }
+    pub streett-turned : {p : ℕ} {out : List ℕ} {size : ℕ} → r .condition ≡ Streett p → Stands mostBytes (refusedText 4 0 0) out size → Turned text out size
+    streett-turned e S = record { column = r .column; first = R .column; held = rw (by-kind, e) S }
 
-    pub rabin-turned : {p : ℕ} {out : List ℕ} {size : ℕ} → r .condition ≡ Rabin p → Stands mostBytes (refusedText 4 0) out size → Turned text out size
-    rabin-turned e S = record { held = rw (by-kind, e) S }
+    pub rabin-turned : {p : ℕ} {out : List ℕ} {size : ℕ} → r .condition ≡ Rabin p → Stands mostBytes (refusedText 4 0 0) out size → Turned text out size
+    rabin-turned e S = record { column = r .column; first = R .column; held = rw (by-kind, e) S }

@@ -11,7 +11,7 @@ use Rattle.table.specs.Table.{Table}
 use Rattle.table.specs.Refusal.{refusal}
 use Rattle.climbing.specs.Translated.{translated}
 use Rattle.one_mark.specs.Outcome.{large}
-use Rattle.job_text.specs.Job.{Job, Outcome, job, fault, readJob}
+use Rattle.job_text.specs.Job.{Job, Outcome, job, fault, readJob, Column}
 use Rattle.job_text.specs.Asked.{jobTable}
 use Rattle.answer_text.specs.Printed.{refusedText}
 use Rattle.writing.specs.Writing.{orElse, Stands}
@@ -25,10 +25,10 @@ cause t k =
     (cond (large (translated t k .states) (translated t k .edges)) (Refused 10 0)
     (cond (tooLarge (translated t k)) (Refused 23 0) Sound))
 
--- the text, or "the lines of the refusal"
+-- the text, or "the lines of the refusal", with column 0
 abbrev pub toldOr : Finding → List ℕ → List ℕ
 toldOr Sound text = text
-toldOr (Refused number place) text = refusedText number place
+toldOr (Refused number place) text = refusedText number place 0
 
 -- a table with k marks: the job text of the translated one
 abbrev pub turnedTable : Table → ℕ → List ℕ
@@ -37,14 +37,16 @@ turnedTable t k = toldOr (cause t k) (jobText (translated t k))
 -- "a job of another kind: 4 at place 0"
 abbrev pub turnedBy : Acceptance → Table → List ℕ
 turnedBy (Buchi k) t = turnedTable t k
-turnedBy (Streett p) t = refusedText 4 0
-turnedBy (Rabin p) t = refusedText 4 0
+turnedBy (Streett p) t = refusedText 4 0 0
+turnedBy (Rabin p) t = refusedText 4 0 0
 
--- "20 comes first", 21, 22 and 23 line by line: what the reader refuses is printed as it is
-abbrev pub turned : Outcome → List ℕ
-turned (fault number place) = refusedText number place
-turned (job j) = turnedBy (j .condition) (jobTable j)
+-- "20 comes first", 21, 22 and 23 line by line: what the reader refuses is printed as it is, with the column of the first fault
+abbrev pub turned : Outcome → ℕ → List ℕ
+turned (fault number place) column = refusedText number place column
+turned (job j) column = turnedBy (j .condition) (jobTable j)
 
 -- the whole promise, for every text: what the text is translated into, and nothing else, stands in `out`, and `size` is how long it is
 pub record Turned (text out : List ℕ) (size : ℕ) : Type 0 where
-  pub held : Stands mostBytes (turned (readJob text)) out size
+  pub column : ℕ
+  pub first : Column text column
+  pub held : Stands mostBytes (turned (readJob text) column) out size

@@ -24,12 +24,12 @@ pub const MOST_WRITTEN: usize = 11336;
 const MOST_MADE: usize = 32768;
 
 // Prints a refusal's lines in place of the text.
-fn tell_refused(number: u32, place: u32, out: &mut [u8; MOST_WRITTEN]) -> usize
-    ensures { λ r. ⌜ Stands mostBytes (refusedText number place) (now (out .exit)) r ⌝ }
+fn tell_refused(number: u32, place: u32, column: u32, out: &mut [u8; MOST_WRITTEN]) -> usize
+    ensures { λ r. ⌜ Stands mostBytes (refusedText number place column) (now (out .exit)) r ⌝ }
 {
-    match print_refused(number, place, out) {
+    match print_refused(number, place, column, out) {
         Printed::Text { length } => length,
-        // never: its lines fit
+        // never: they fit
         Printed::Refused {
             number: _,
             place: _,
@@ -50,7 +50,7 @@ fn write_made(
 {
     match write_job(n, start, from, to, marks, out) {
         Written::Text { length } => length,
-        Written::Refused { number, place } => tell_refused(number, place, out),
+        Written::Refused { number, place } => tell_refused(number, place, 0, out),
     }
 }
 
@@ -81,7 +81,7 @@ fn translate_table(
         &mut bears,
     );
     match translation {
-        Translation::Refused { number, place } => tell_refused(number, place, out),
+        Translation::Refused { number, place } => tell_refused(number, place, 0, out),
         Translation::Made {
             states,
             edges,
@@ -110,7 +110,7 @@ pub fn translate_text(text: &[u8], out: &mut [u8; MOST_WRITTEN]) -> usize
     let job = read(text, &mut from, &mut to, &mut marks);
     let finding = job.finding;
     if let Finding::Refused { number, place } = finding {
-        return tell_refused(number, place, out);
+        return tell_refused(number, place, job.column, out);
     }
     let m = job.edges as usize;
     let condition = job.condition;
@@ -124,7 +124,7 @@ pub fn translate_text(text: &[u8], out: &mut [u8; MOST_WRITTEN]) -> usize
             k,
             out,
         ),
-        Acceptance::Streett(_) => tell_refused(4, 0, out),
-        Acceptance::Rabin(_) => tell_refused(4, 0, out),
+        Acceptance::Streett(_) => tell_refused(4, 0, 0, out),
+        Acceptance::Rabin(_) => tell_refused(4, 0, 0, out),
     }
 }

@@ -1,9 +1,8 @@
--- `is_refusal` meets its contract: two numbers, the words behind them, and nothing more. Assumes nothing.
+-- `is_refusal` meets its contract: a number, the word behind it, and the place and the column behind that. Assumes nothing.
 use mathlib.Core.Path.{sym, _∙_}
 use borrow.Author.Tests.{not-true, not-false}
 use denote.Ref.{now}
-use Rattle.puts.specs.Put.{decimalIn}
-use Rattle.answer_form.proofs.Forms.{no-number, no-place, refusal-behind, wrong-number, right-number}
+use Rattle.answer_form.proofs.Forms.{no-number, wrong-number, right-number}
 use native.Mathlib.Omega.{arith}
 use borrow.Author.Needs.{needs}
 use Rattle.answer_form.proofs.is_refusal.Statement.{statement}
@@ -21,70 +20,33 @@ returns c =
     let first = c .before .before .value-then in
     sym (no-number (now (a .text)) (a .at) (first .result) (first .ensures) (not-true _ (c .if1 .taken)))
 
-slice-aggregate-value-then-2 : tie.Need-slice-aggregate-value-then-2
-slice-aggregate-value-then-2 c = search needs
-
-value-then-requires-2 : tie.Need-value-then-requires-2
-value-then-requires-2 c κs = c .before .before .before .value-then .ensures .next-there (not-false _ (c .before .if1 .left))
-
-returns-2 : tie.Need-returns-2
-unfolding decimalIn
-returns-2 c =
-    let a = c .before .before .before .before .before .before .before .before .before .args in
-    let first = c .before .before .before .before .before .before .value-then in
-    let second = c .before .before .value-then2 in
-    sym (no-place (now (a .text)) (a .at) (first .result) (first .ensures) (not-false _ (c .before .before .before .before .if1 .left)) (second .result) (second .ensures) (not-true _ (c .if2 .taken)))
-
-returns-3 : tie.Need-returns-3
-unfolding decimalIn
-returns-3 c =
-    let a = c .before .before .before .before .before .before .before .before .before .before .before .args in
-    let first = c .before .before .before .before .before .before .before .before .value-then in
-    let second = c .before .before .before .before .value-then2 in
-    sym (refusal-behind (now (a .text)) (a .at) (first .result) (first .ensures) (not-false _ (c .before .before .before .before .before .before .if1 .left)) (second .result) (second .ensures) (not-false _ (c .before .before .if2 .left)) (c .if3 .taken))
-
 sub-is-number : tie.Need-sub-is-number
-sub-is-number c = omega (arith, c .before .before .before .before .before .before .before .before .value-then .ensures .there (not-false _ (c .before .before .before .before .before .before .if1 .left)) .low)
+sub-is-number c = omega (arith, c .before .before .value-then .ensures .there (not-false _ (c .if1 .left)) .low)
 
 part-is-number-start : tie.Need-part-is-number-start
-part-is-number-start c = c .before .before .before .before .before .before .before .before .value-then .ensures .there (not-false _ (c .before .before .before .before .before .before .if1 .left)) .low
+part-is-number-start c = c .before .before .value-then .ensures .there (not-false _ (c .if1 .left)) .low
 
 part-is-number-end : tie.Need-part-is-number-end
-part-is-number-end c = c .before .before .before .before .before .before .before .before .value-then .ensures .there (not-false _ (c .before .before .before .before .before .before .if1 .left)) .high
+part-is-number-end c = c .before .before .value-then .ensures .there (not-false _ (c .if1 .left)) .high
 
 is-number-requires : tie.Need-is-number-requires
 is-number-requires c κs = search needs
 
-returns-4 : tie.Need-returns-4
-unfolding decimalIn
-returns-4 c =
-    let a = c .before .before .before .before .before .before .before .before .before .before .before .before .before .before .args in
-    let first = c .before .before .before .before .before .before .before .before .before .before .before .value-then in
-    let second = c .before .before .before .before .before .before .before .value-then2 in
-    sym (wrong-number (now (a .text)) (a .at) (first .result) (first .ensures) (not-false _ (c .before .before .before .before .before .before .before .before .before .if1 .left)) (second .result) (second .ensures) (not-false _ (c .before .before .before .before .before .if2 .left))
-    (c .before .before .before .if3 .left) (sym (c .before .is-number .ensures) ∙ not-true _ (c .if4 .taken)))
+returns-2 : tie.Need-returns-2
+returns-2 c =
+    let a = c .before .before .before .before .before .before .before .before .args in
+    let first = c .before .before .before .before .before .value-then in
+    sym (wrong-number (now (a .text)) (a .at) (first .result) (first .ensures) (not-false _ (c .before .before .before .if1 .left)) (sym (c .before .is-number .ensures) ∙ not-true _ (c .if2 .taken)))
 
-sub-is-number-2 : tie.Need-sub-is-number-2
-sub-is-number-2 c = omega (arith, c .before .before .before .before .before .before .before .value-then2 .ensures .there (not-false _ (c .before .before .before .before .before .if2 .left)) .low)
+is-where-requires : tie.Need-is-where-requires
+is-where-requires c κs = c .before .before .before .before .before .value-then .ensures .next-there (not-false _ (c .before .before .before .if1 .left))
 
-part-is-number-start-2 : tie.Need-part-is-number-start-2
-part-is-number-start-2 c = c .before .before .before .before .before .before .before .value-then2 .ensures .there (not-false _ (c .before .before .before .before .before .if2 .left)) .low
-
-part-is-number-end-2 : tie.Need-part-is-number-end-2
-part-is-number-end-2 c = c .before .before .before .before .before .before .before .value-then2 .ensures .there (not-false _ (c .before .before .before .before .before .if2 .left)) .high
-
-is-number-requires-2 : tie.Need-is-number-requires-2
-is-number-requires-2 c κs = search needs
-
-returns-5 : tie.Need-returns-5
-unfolding decimalIn
-returns-5 c =
-    let a = c .before .before .before .before .before .before .before .before .before .before .before .before .before .before .before .before .args in
-    let first = c .before .before .before .before .before .before .before .before .before .before .before .before .before .value-then in
-    let second = c .before .before .before .before .before .before .before .before .before .value-then2 in
-    c .is-number2 .ensures
-    ∙ sym (right-number (now (a .text)) (a .at) (first .result) (first .ensures) (not-false _ (c .before .before .before .before .before .before .before .before .before .before .before .if1 .left)) (second .result) (second .ensures) (not-false _ (c .before .before .before .before .before .before .before .if2 .left))
-    (c .before .before .before .before .before .if3 .left) (sym (c .before .before .before .is-number .ensures) ∙ not-false _ (c .before .before .if4 .left)))
+returns-3 : tie.Need-returns-3
+returns-3 c =
+    let a = c .before .before .before .before .before .before .before .before .before .args in
+    let first = c .before .before .before .before .before .before .value-then in
+    c .is-where .ensures
+    ∙ sym (right-number (now (a .text)) (a .at) (first .result) (first .ensures) (not-false _ (c .before .before .before .before .if1 .left)) (sym (c .before .before .is-number .ensures) ∙ not-false _ (c .before .if2 .left)))
 
 pub is-refusal-spec : {M : Type 1} → statement M
 is-refusal-spec =
@@ -93,17 +55,10 @@ is-refusal-spec =
     slice-aggregate-value-then
     value-then-requires
     returns
-    slice-aggregate-value-then-2
-    value-then-requires-2
-    returns-2
-    returns-3
     sub-is-number
     part-is-number-start
     part-is-number-end
     is-number-requires
-    returns-4
-    sub-is-number-2
-    part-is-number-start-2
-    part-is-number-end-2
-    is-number-requires-2
-    returns-5)
+    returns-2
+    is-where-requires
+    returns-3)

@@ -41,14 +41,14 @@ same-length c = search needs
 
 returns : tie.Need-returns
 unfolding faultLines
-returns c = rw (c .before .before .before .before .before .enum-told .given .1) (few-word 50 (c .before .before .put-word .ensures) (omega arith))
+returns c = rw (c .before .before .before .before .before .enum-told .given .1) (few-word 40 (c .before .before .put-word .ensures) (omega arith))
 
 same-length-2 : tie.Need-same-length-2
 same-length-2 c = search needs
 
 returns-2 : tie.Need-returns-2
 unfolding faultLines
-returns-2 c = rw (c .before .before .before .before .before .enum-told2 .given .1) (few-word 50 (c .before .before .put-word2 .ensures) (omega arith))
+returns-2 c = rw (c .before .before .before .before .before .enum-told2 .given .1) (few-word 40 (c .before .before .put-word2 .ensures) (omega arith))
 
 same-length-3 : tie.Need-same-length-3
 same-length-3 c = search needs

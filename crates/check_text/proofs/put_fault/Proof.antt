@@ -47,28 +47,28 @@ same-length c = search needs
 
 returns : tie.Need-returns
 unfolding faultLines
-returns c = rw (c .before .before .before .before .before .enum-told .given .1) (few-more 50 (c .before .before .put-held .ensures) (omega arith))
+returns c = rw (c .before .before .before .before .before .enum-told .given .1) (few-more 40 (c .before .before .put-held .ensures) (omega arith))
 
 same-length-2 : tie.Need-same-length-2
 same-length-2 c = search needs
 
 returns-2 : tie.Need-returns-2
 unfolding faultLines
-returns-2 c = rw (c .before .before .before .before .before .enum-told2 .given .1) (few-more 50 (c .before .before .put-held2 .ensures) (omega arith))
+returns-2 c = rw (c .before .before .before .before .before .enum-told2 .given .1) (few-more 40 (c .before .before .put-held2 .ensures) (omega arith))
 
 same-length-3 : tie.Need-same-length-3
 same-length-3 c = search needs
 
 returns-3 : tie.Need-returns-3
 unfolding faultLines
-returns-3 c = rw (c .before .before .before .before .before .enum-told3 .given .1) (few-more 50 (c .before .before .put-held3 .ensures) (omega arith))
+returns-3 c = rw (c .before .before .before .before .before .enum-told3 .given .1) (few-more 40 (c .before .before .put-held3 .ensures) (omega arith))
 
 same-length-4 : tie.Need-same-length-4
 same-length-4 c = search needs
 
 returns-4 : tie.Need-returns-4
 unfolding faultLines
-returns-4 c = rw (c .before .before .before .before .before .enum-told4 .given .1) (few-more 50 (c .before .before .put-held4 .ensures) (omega arith))
+returns-4 c = rw (c .before .before .before .before .before .enum-told4 .given .1) (few-more 40 (c .before .before .put-held4 .ensures) (omega arith))
 
 pub put-fault-spec : {M : Type 1} → statement M
 put-fault-spec =

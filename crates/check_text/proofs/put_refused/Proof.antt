@@ -1,4 +1,4 @@
--- `put_refused` meets its contract: two numbers, each behind its key. Assumes nothing.
+-- `put_refused` meets its contract: three numbers, each behind its key. Assumes nothing.
 use Rattle.puts.proofs.Few.{few-both}
 use Rattle.check_text.specs.Replied.{topText}
 use native.Mathlib.Omega.{arith}
@@ -18,12 +18,22 @@ slice-aggregate-put-held-2 c = search needs
 put-held-requires-2 : tie.Need-put-held-requires-2
 put-held-requires-2 c κs = search needs
 
+slice-aggregate-put-held-3 : tie.Need-slice-aggregate-put-held-3
+slice-aggregate-put-held-3 c = search needs
+
+put-held-requires-3 : tie.Need-put-held-requires-3
+put-held-requires-3 c κs = search needs
+
 same-length : tie.Need-same-length
 same-length c = search needs
 
 returns : tie.Need-returns
 unfolding topText
-returns c = few-both 60 (c .before .before .before .before .before .before .before .put-held .ensures) (c .before .before .put-held2 .ensures) (omega arith)
+returns c =
+    let at-column = c .before .before in
+    let at-place = at-column .before .before .before .before .before in
+    let at-code = at-place .before .before .before .before .before in
+    few-both 70 (few-both 50 (at-code .put-held .ensures) (at-place .put-held2 .ensures) (omega arith)) (at-column .put-held3 .ensures) (omega arith)
 
 pub put-refused-spec : {M : Type 1} → statement M
 put-refused-spec =
@@ -33,5 +43,7 @@ put-refused-spec =
     put-held-requires
     slice-aggregate-put-held-2
     put-held-requires-2
+    slice-aggregate-put-held-3
+    put-held-requires-3
     same-length
     returns)

@@ -1,4 +1,4 @@
--- `tell_refused` meets its contract: a refusal's lines fit (`refused-few`), so `print_refused` gives their length and writes them all (`told-stands`);
+-- `tell_refused` meets its contract: a refusal's eight lines fit (`refused-few`), so `print_refused` gives their length and writes them all (`told-stands`);
 -- the other arm is never come to (`never-refused`). Assumes nothing.
 use mathlib.Core.Path.{_≡_}
 use native.Mathlib.Omega.{arith}
@@ -25,7 +25,7 @@ returns c =
     let at-print = c .before .before .before in
     let a = at-print .before .before .args in
     let wide : length (now (a .out)) ≡ mostBytes = search needs in
-    let short = refused-few (a .number) (a .place) (omega arith) (omega arith) in
+    let short = refused-few (a .number) (a .place) (a .column) (omega arith) (omega arith) (omega arith) in
     told-stands wide (omega (arith, wide, short)) (at-print .print-refused .ensures) (c .before .length .given .1)
 
 returns-2 : tie.Need-returns-2
@@ -33,7 +33,7 @@ returns-2 c =
     let at-print = c .before .before in
     let a = at-print .before .before .args in
     let wide : length (now (a .out)) ≡ mostBytes = search needs in
-    let short = refused-few (a .number) (a .place) (omega arith) (omega arith) in
+    let short = refused-few (a .number) (a .place) (a .column) (omega arith) (omega arith) (omega arith) in
     never-refused (omega (arith, wide, short)) (at-print .print-refused .ensures) (c .enum-told .given .1)
 
 pub tell-refused-spec : {M : Type 1} → statement M

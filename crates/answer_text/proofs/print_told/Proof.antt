@@ -1,10 +1,10 @@
--- `print` meets its contract: writing into no cells gives the text's length, and where the buffer is long enough the text is written
+-- `print_told` meets its contract: writing into no cells gives the text's length, and where the buffer is long enough the text is written
 -- and zeros after it (`printed-whole`). Assumes nothing.
 use denote.Ref.{now}
 use Rattle.answer_text.proofs.Prints.{printed-short, printed-whole}
 use borrow.Author.Needs.{needs}
-use Rattle.answer_text.proofs.print.Statement.{statement}
-use Rattle.answer_text.proofs.print.Tie as tie
+use Rattle.answer_text.proofs.print_told.Statement.{statement}
+use Rattle.answer_text.proofs.print_told.Tie as tie
 
 sub-put-answer : tie.Need-sub-put-answer
 sub-put-answer c = search needs
@@ -43,8 +43,8 @@ returns-2 c =
     printed-whole _ out (p .last .0) (c .before .before .before .before .before .before .put-answer2 .last .0) _ (p .result) (p .kept .0) (p .ensures .next) (c .before .before .before .before .before .before .before .before .if1 .left)
     (c .before .before .before .before .before .before .put-answer2 .ensures .cells) (c .before .before .clear .ensures)
 
-pub print-spec : {M : Type 1} → statement M
-print-spec =
+pub print-told-spec : {M : Type 1} → statement M
+print-told-spec =
     tie.close
     (tie.spec
     sub-put-answer

@@ -8,7 +8,7 @@
                                                  examples, the large jobs and random jobs, and checks all that is printed
 
 tests/answers/inputs: for each input its name, its length and a newline, then exactly that many bytes. tests/answers/results: for each its name and the values of the
-five lines that are printed for it.
+six lines that are printed for it.
 """
 
 import random
@@ -32,7 +32,9 @@ FORM = (
     ("verdict", "run", "empty", "refused"),
     ("code", "0", "0", NUMBER),
     ("place", "0", "0", NUMBER),
+    ("column", "0", "0", NUMBER),
     ("pair", PAIR, "-", "-"),
+    ("depth", "0", NUMBER, "0"),
     ("prefix", LIST, "-", "-"),
     ("cycle", LIST, "-", "-"),
 )
@@ -88,15 +90,15 @@ def said(text, kind):
 MOST_ANSWER = 65_536
 
 
-def result(verdict, code=0, place=0, fault="-", position="-"):
-    return f"verdict={verdict}\ncode={code}\nplace={place}\nfault={fault}\nposition={position}\n".encode()
+def result(verdict, code=0, place=0, column=0, fault="-", position="-"):
+    return f"verdict={verdict}\ncode={code}\nplace={place}\ncolumn={column}\nfault={fault}\nposition={position}\n".encode()
 
 
 ACCEPTED = result("accepted")
 
 
-def refused(code, place=0):
-    return result("refused", code, place)
+def refused(code, place=0, column=0):
+    return result("refused", code, place, column)
 
 
 def rejected(fault, position):
@@ -260,9 +262,20 @@ def malformed():
     yield "verdict-in-capitals", GOOD.replace("=run", "=Run")
     yield "run-with-a-code", printed(code="5", prefix="0", cycle="1,2")
     yield "run-with-a-place", printed(place="1", prefix="0", cycle="1,2")
+    yield "run-with-a-column", printed(column="1", prefix="0", cycle="1,2")
+    yield "run-with-a-depth", printed(depth="1", prefix="0", cycle="1,2")
     yield "run-with-a-pair", printed(pair="0", prefix="0", cycle="1,2")
     yield "empty-with-a-code", printed("empty", code="1")
+    yield "empty-with-a-column", printed("empty", column="8")
     yield "empty-with-a-pair", printed("empty", pair="0")
+    yield "empty-depth-65536", printed("empty", depth="65536")
+    yield "empty-without-column", printed("empty").replace("column=0\n", "")
+    yield "refused-without-column", printed("refused").replace("column=7\n", "")
+    yield "refused-column-before-place", printed("refused").replace("place=7\ncolumn=7\n", "column=7\nplace=7\n")
+    yield "refused-column-dash", printed("refused", column="-")
+    yield "refused-column-07", printed("refused", column="07")
+    yield "refused-column-65536", printed("refused", column="65536")
+    yield "refused-with-a-depth", printed("refused", depth="1")
     yield "empty-with-edges", printed("empty", cycle="1,2")
     yield "refused-with-edges", printed("refused", prefix="0")
     yield "refused-with-a-pair", printed("refused", pair="0")
@@ -275,40 +288,49 @@ def malformed():
 
 
 def refusals():
-    """Name, input, number and place: the job's own first, then 50 and 51."""
-    for name, text, number, place in (
+    """Name, input and what is told, number, place and perhaps column: the job's own first, then 50 and 51."""
+    for name, text, *told in (
         ("1", job(states=0, edges=[]), 1, 0),
         ("3", job(start=3), 3, 0),
         ("4", job(kind="rabin", count=1, need="32"), 4, 0),
         ("5", job(edges=["0,1,00000000", "1,3,00000000"]), 5, 1),
         ("6", job(edges=["0,1,00000000", "2,1,00000000", "1,2,00000000"]), 6, 2),
         ("7", job(edges=["0,1,00000003", "1,2,00000004"]), 7, 1),
-        ("21", job().replace("need", "needs"), 21, 5),
-        ("22", job().replace("edges=3", "edges=03"), 22, 6),
-        ("23", job(states=257), 23, 1),
+        ("21", job().replace("need", "needs"), 21, 5, 1),
+        ("22", job().replace("edges=3", "edges=03"), 22, 6, 8),
+        ("22-newline", job().replace("1,2,00000001", "1,2,0000001"), 22, 8, 17),
+        ("23", job(states=257), 23, 1, 8),
     ):
-        yield f"job-{name}", text + GOOD, number, place
-        yield f"job-{name}-before-50", text + "?", number, place
-        yield f"job-{name}-before-51", text + printed("empty"), number, place
+        yield f"job-{name}", text + GOOD, *told
+        yield f"job-{name}-before-50", text + "?", *told
+        yield f"job-{name}-before-51", text + printed("empty"), *told
     yield "job-20", "x" * 12_280 + "\nend=job\n" + GOOD, 20, 0
-    yield "job-of-12288-bytes", "x" * 12_279 + "\nend=job\n" + GOOD, 21, 1
-    yield "nothing-at-all", "", 21, 1
-    yield "answer-alone", GOOD, 21, 1
-    yield "no-end", TABLE_A.replace("end=job\n", "") + GOOD, 21, 10
-    yield "end-without-newline", TABLE_A[:-1], 21, 10
-    yield "end-cr", TABLE_A.replace("end=job", "end=job\r") + GOOD, 22, 10
-    yield "end-with-a-blank", TABLE_A.replace("end=job", "end=job ") + GOOD, 22, 10
-    yield "end-behind-a-blank", TABLE_A.replace("end=job", " end=job") + GOOD, 21, 10
-    yield "end-longer", TABLE_A.replace("end=job", "end=jobs") + GOOD + "end=job\n", 22, 10
-    yield "end-first", "end=job\n" + TABLE_A + GOOD, 21, 1
-    yield "end-in-the-middle", TABLE_A.replace("kind", "end=job\nkind") + GOOD, 21, 3
+    yield "job-of-12288-bytes", "x" * 12_279 + "\nend=job\n" + GOOD, 21, 1, 1
+    yield "nothing-at-all", "", 21, 1, 1
+    yield "answer-alone", GOOD, 21, 1, 1
+    yield "no-end", TABLE_A.replace("end=job\n", "") + GOOD, 21, 10, 1
+    yield "end-without-newline", TABLE_A[:-1], 21, 10, 1
+    yield "end-cr", TABLE_A.replace("end=job", "end=job\r") + GOOD, 22, 10, 8
+    yield "end-with-a-blank", TABLE_A.replace("end=job", "end=job ") + GOOD, 22, 10, 8
+    yield "end-behind-a-blank", TABLE_A.replace("end=job", " end=job") + GOOD, 21, 10, 1
+    yield "end-longer", TABLE_A.replace("end=job", "end=jobs") + GOOD + "end=job\n", 22, 10, 8
+    yield "end-first", "end=job\n" + TABLE_A + GOOD, 21, 1, 1
+    yield "end-in-the-middle", TABLE_A.replace("kind", "end=job\nkind") + GOOD, 21, 3, 1
     yield "end-twice", TABLE_A + "end=job\n" + GOOD, 50, 0
     yield "50-rabin-without-pair", RABIN + printed(prefix="0", cycle="1"), 50, 0
     yield "50-rabin-pair-stop", RABIN + printed(pair="stop", prefix="0", cycle="1"), 50, 0
     yield "50-rabin-pair-65536", RABIN + printed(pair="65536", prefix="0", cycle="1"), 50, 0
     yield "50-streett-with-pair", STREETT + printed(pair="0", cycle="0"), 50, 0
     yield "50-before-51", TABLE_A + printed("empty") + "x", 50, 0
-    for name, values in (("empty", {}), ("refused", {}), ("refused", {"code": "0", "place": "0"}), ("refused", {"code": "65535", "place": "65535"}), ("refused", {"code": "50"})):
+    for name, values in (
+        ("empty", {}),
+        ("empty", {"depth": "0"}),
+        ("empty", {"depth": "65535"}),
+        ("refused", {}),
+        ("refused", {"code": "0", "place": "0", "column": "0"}),
+        ("refused", {"code": "65535", "place": "65535", "column": "65535"}),
+        ("refused", {"code": "50"}),
+    ):
         yield "-".join(["51", name, *values.values()]), TABLE_A + printed(name, **values), 51, 0
         yield "-".join(["51-rabin", name, *values.values()]), RABIN + printed(name, **values), 51, 0
 
@@ -320,8 +342,8 @@ def cases():
     for name, answer in malformed():
         if answer != GOOD:
             yield f"50-{name}", TABLE_A + answer, refused(50)
-    for name, text, number, place in refusals():
-        yield f"refused-{name}", text, refused(number, place)
+    for name, text, *told in refusals():
+        yield f"refused-{name}", text, refused(*told)
 
 
 def long_inputs():

@@ -193,18 +193,15 @@ def run_random(program):
     return tallied(((f"random text {number}: {text!r}", text, result(text)) for number, text in enumerate(texts)), program, fault_of_answer)
 
 
-REFUSAL = "verdict=refused\ncode=%d\nplace=%d\npair=-\ndepth=0\nprefix=-\ncycle=-\n"
-
-
 def written(job_text):
     """What job_to_hoa writes for a job text."""
     try:
         job = job_vectors.read(job_text)
         refusal = job_vectors.refusal(job)
     except job_vectors.Refused as refused:
-        refusal = refused.args[:2]
+        refusal = refused.args
     if refusal is not None:
-        return (REFUSAL % refusal).encode()
+        return job_vectors.refused_text(*refusal)
     text = hoa_reader.written(job)
     back = job | {"kind": "buchi"} if (job["kind"], job["count"]) == ("streett", 0) else job
     assert hoa_reader.read(text) == back, "what is written does not read back"

@@ -22,7 +22,6 @@ STORED = Path(__file__).resolve().parent.parent / "tests" / "translated"
 EXAMPLES = Path(__file__).resolve().parent.parent / "examples" / "jobs"
 MADE_STATES, MADE_EDGES = 4096, 32768  # row 10
 JOB_STATES, JOB_EDGES, JOB_BYTES = 256, 512, 11_336  # row 23, and the longest text
-REFUSAL = "verdict=refused\ncode=%d\nplace=%d\npair=-\ndepth=0\nprefix=-\ncycle=-\n"
 
 # ---- what is due ---------------------------------------------------------------------------------------------------------------------
 
@@ -54,11 +53,11 @@ def translate(job):
 
 
 def refusal_of(text):
-    """The job, or number and place of its refusal."""
+    """The job, or number, place and perhaps column of its refusal."""
     try:
         read = job_vectors.read(text)
     except job_vectors.Refused as refused:
-        return None, refused.args[:2]
+        return None, refused.args
     if read["kind"] != "buchi":
         return None, (4, 0)
     return read, job_vectors.refusal(read)
@@ -74,7 +73,7 @@ def due(text):
         elif states > JOB_STATES or len(edges) > JOB_EDGES:
             refusal = 23, 0
     if refusal is not None:
-        return (REFUSAL % refusal).encode()
+        return job_vectors.refused_text(*refusal)
     lines = ["form=2", f"states={states}", f"start={start}", "kind=buchi", "count=1", "need=-", f"edges={len(edges)}"]
     lines += ["edge=%d,%d,%08x" % edge for edge in edges] + ["end=job"]
     return "".join(line + "\n" for line in lines).encode()
@@ -99,7 +98,7 @@ def cases():
     yield "no-edges", job(3, 2, "buchi", 2, "-", []), b"form=2\nstates=6\nstart=4\nkind=buchi\ncount=1\nneed=-\nedges=0\nend=job\n"
     yield "largest", job(256, 255, "buchi", 1, "-", ["255,255,00000001"] * 512), b"form=2\nstates=256\nstart=255\nkind=buchi\ncount=1\nneed=-\nedges=512\n"
     yield "largest-of-eight-marks", job(32, 31, "buchi", 8, "-", ring(32, 8, 2)), b"form=2\nstates=256\nstart=248\n"
-    for name, text, number, place in (
+    for name, text, *refusal in (
         ("refused-1", job(states=0, edges=[]), 1, 0),
         ("refused-3", job(start=3), 3, 0),
         ("refused-4-streett", job(kind="streett", count=1), 4, 0),
@@ -111,15 +110,16 @@ def cases():
         ("refused-7", job(edges=["0,1,00000003", "1,2,00000004"]), 7, 1),
         ("refused-10", job(129, 0, "buchi", 32, "-", []), 10, 0),
         ("refused-20", job() + "#" * 12_288, 20, 0),
-        ("refused-21", job().replace("need", "needs"), 21, 5),
-        ("refused-22", job().replace("edges=3", "edges=03"), 22, 6),
-        ("refused-23-line", job(states=257), 23, 1),
+        ("refused-21", job().replace("need", "needs"), 21, 5, 1),
+        ("refused-22", job().replace("edges=3", "edges=03"), 22, 6, 8),
+        ("refused-22-newline", job().replace("1,2,00000001", "1,2,0000001"), 22, 8, 17),
+        ("refused-23-line", job(states=257), 23, 1, 8),
         ("refused-23-states", job(129, 0, "buchi", 2, "-", []), 23, 0),
         ("refused-23-states-at-row-10", job(128, 0, "buchi", 32, "-", []), 23, 0),
         ("refused-23-edges", job(1, 0, "buchi", 2, "-", ["0,0,00000003"] * 257), 23, 0),
         ("refused-23-loops", job(256, 0, "buchi", 0, "-", ["0,0,00000000"] * 258), 23, 0),
     ):
-        yield name, text, (REFUSAL % (number, place)).encode()
+        yield name, text, job_vectors.refused_text(*refusal)
     yield "loops-at-the-limit", job(256, 0, "buchi", 0, "-", ["0,0,00000000"] * 257), b"form=2\nstates=256\nstart=0\nkind=buchi\ncount=1\nneed=-\nedges=512\n"
     for path in sorted(EXAMPLES.glob("*.job")):
         yield f"example-{path.stem}", path.read_text(), b""

@@ -10,7 +10,7 @@ from pathlib import Path
 
 ROOT = Path(__file__).resolve().parent.parent
 SECOND = 1.0
-LINES = 7  # of a printed answer
+LINES = 8  # of a printed answer
 
 passed = failed = 0
 

@@ -7,17 +7,18 @@ from manners import EMPTY, REFUSED, RUN
 STATUS = {b"empty": EMPTY, b"run": RUN, b"refused": REFUSED}
 STOP = 65_535  # the waiting edge of a state that no edge leaves; printed `stop`
 EDGES = rb"(-|(?:\d+|stop)(?:,(?:\d+|stop))*)"
-ANSWER = re.compile(rb"verdict=(run|empty|refused)\ncode=(\d+)\nplace=(\d+)\npair=(-|\d+)\ndepth=(\d+)\nprefix=" + EDGES + rb"\ncycle=" + EDGES + rb"\n")
+ANSWER = re.compile(rb"verdict=(run|empty|refused)\ncode=(\d+)\nplace=(\d+)\ncolumn=(\d+)\npair=(-|\d+)\ndepth=(\d+)\nprefix=" + EDGES + rb"\ncycle=" + EDGES + rb"\n")
 
 
 def read_answer(output, where, refused):
-    """The exit status and the sentence; None if the output is no printed answer. `where` says for a prefix and a cycle where their edges stand, `refused` for a code and
-    a place what is wrong there."""
+    """The exit status and the sentence; None if the output is no printed answer. `where` says for a prefix and a cycle where their edges stand, `refused` for a code,
+    a place and a column what is wrong there."""
     found = ANSWER.fullmatch(output)
     if not found:
         return None
-    verdict, code, place, depth, prefix, cycle = found[1], int(found[2]), int(found[3]), int(found[5]), found[6], found[7]
-    if (verdict == b"refused") != (code != 0) or (verdict == b"run") != (cycle != b"-") or depth and verdict != b"empty":
+    verdict, prefix, cycle = found[1], found[7], found[8]
+    code, place, column, depth = (int(found[group]) for group in (2, 3, 4, 6))
+    if (verdict == b"refused") != (code != 0) or (verdict == b"run") != (cycle != b"-") or depth and verdict != b"empty" or column and verdict != b"refused":
         return None
     if verdict == b"empty":
         sentence = "empty: no endless run meets the condition"
@@ -26,7 +27,7 @@ def read_answer(output, where, refused):
         last = "a halt for ever" if STOP in numbers_of(cycle) else f"{counted(cycle)} round and round"
         sentence = f"run: an endless run meets the condition: {first}{last}{told(where, prefix, cycle)}"
     else:
-        sentence = "refused: " + (told(refused, code, place) or f"code {code}, place {place}")
+        sentence = "refused: " + (told(refused, code, place, column) or f"code {code}, place {place}, column {column}")
     return STATUS[verdict], sentence
 
 

@@ -12,7 +12,7 @@ use: tools/check_answer [--quiet] [FILE]    checks the answer that stands behind
      tools/check_answer --help | --version
 
 The job goes to its line `end=job`; all that follows is the answer, as tools/judge prints it, from whatever tool. Nothing is searched: the answer is walked edge by edge.
-Standard output: five lines, verdict, code, place, fault and position. Standard error: one sentence on what they mean and where to look; not with --quiet.
+Standard output: six lines, verdict, code, place, column, fault and position. Standard error: one sentence on what they mean and where to look; not with --quiet.
 Exit status: 0 accepted, 1 rejected, 2 refused, 3 no answer (also for wrong use). README.md has the faults and the codes.
 """
 

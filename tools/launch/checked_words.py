@@ -1,6 +1,6 @@
 """What checking an answer gave, in plain words: where the answer goes wrong. Used by the launchers; not a command by itself.
 
-What the words rest on are the five printed lines; job and answer are only looked at to be helpful.
+What the words rest on are the six printed lines; job and answer are only looked at to be helpful.
 """
 
 import re
@@ -12,7 +12,7 @@ from manners import ACCEPTED, REFUSED, REJECTED
 LONGEST_ANSWER = 65_536
 LONGEST = job_words.LONGEST + LONGEST_ANSWER
 STATUS = {b"accepted": ACCEPTED, b"rejected": REJECTED, b"refused": REFUSED}
-CHECKED = re.compile(rb"verdict=(accepted|rejected|refused)\ncode=(\d+)\nplace=(\d+)\nfault=(prefix|empty|cycle|condition|-)\nposition=(\d+|-)\n")
+CHECKED = re.compile(rb"verdict=(accepted|rejected|refused)\ncode=(\d+)\nplace=(\d+)\ncolumn=(\d+)\nfault=(prefix|empty|cycle|condition|-)\nposition=(\d+|-)\n")
 
 
 def read_answer(text, output):
@@ -20,8 +20,8 @@ def read_answer(text, output):
     found = CHECKED.fullmatch(output)
     if not found:
         return None
-    verdict, code, place, fault, position = found[1], int(found[2]), int(found[3]), found[4].decode(), found[5]
-    if (verdict == b"refused") != (code != 0) or (verdict == b"rejected") != (fault != "-") or (fault == "-") != (position == b"-"):
+    verdict, code, place, column, fault, position = found[1], int(found[2]), int(found[3]), int(found[4]), found[5].decode(), found[6]
+    if (verdict == b"refused") != (code != 0) or column and verdict != b"refused" or (verdict == b"rejected") != (fault != "-") or (fault == "-") != (position == b"-"):
         return None
     job, answer = cut(text)
     if verdict == b"accepted":
@@ -29,7 +29,7 @@ def read_answer(text, output):
     elif verdict == b"rejected":
         sentence = f"rejected: {fault}, position {int(position)}" + answers.told(lambda: f": {FAULTS[fault](Walk(job, answer), int(position))}")
     else:
-        sentence = "refused: " + (answers.told(refused, job, answer, code, place) or f"code {code}, place {place}")
+        sentence = "refused: " + (answers.told(refused, job, answer, code, place, column) or f"code {code}, place {place}, column {column}")
     return STATUS[verdict], sentence
 
 
@@ -93,12 +93,12 @@ FAULTS = {
 # ---- refusals --------------------------------------------------------------------------------------------------------------------------
 
 
-def refused(job, answer, code, place):
+def refused(job, answer, code, place, column):
     if code == 50:
         return f"the answer is malformed: {malformed(job_words.Job(job), answer)}"
     if code == 51:
         return f"the answer is `{answers.fields_of(answer)[b'verdict'].decode()}`: it names no run that could be checked"
-    return f"the job: {job_words.refused(job_words.Job(job), code, place)}"
+    return f"the job: {job_words.refused(job_words.Job(job), code, place, column)}"
 
 
 def malformed(job, answer):

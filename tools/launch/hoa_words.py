@@ -23,7 +23,7 @@ def begins(first):
 
 def read_answer(text, output):
     """The exit status and the sentence; None if the output is no printed answer."""
-    return answers.read_answer(output, lambda prefix, cycle: where(text, prefix, cycle), lambda code, place: refused(text, code, place))
+    return answers.read_answer(output, lambda prefix, cycle: where(text, prefix, cycle), lambda code, place, column: refused(text, code, place))
 
 
 # ---- where the edges of a run stand ------------------------------------------------------------------------------------------------------

@@ -16,7 +16,7 @@ COUNTS = {"buchi": "32 marks", "streett": "16 pairs", "rabin": "8 pairs"}
 def read_answer(text, output):
     """The exit status and the sentence; None if the output is no printed answer."""
     job = Job(text)
-    return answers.read_answer(output, lambda prefix, cycle: where(job, prefix, cycle), lambda code, place: refused(job, code, place))
+    return answers.read_answer(output, lambda prefix, cycle: where(job, prefix, cycle), lambda code, place, column: refused(job, code, place, column))
 
 
 def where(job, prefix, cycle):
@@ -79,12 +79,12 @@ class Job:
         return numbers | {"kind": self.kind(), "needs": self.needs(), "edges": [self.edge(edge) for edge in range(self.number("edges"))]}
 
 
-def refused(job, code, place):
+def refused(job, code, place, column):
     if code in (5, 6, 7):
         return f"edge {place} (line {job.first_edge + place}): {EDGE[code](job, place)}"
     if code in (21, 22, 23):
-        return f"line {place}: {LINE[code](job, place)}"
-    return WHOLE[code](job) if code in WHOLE else f"code {code}, place {place}"
+        return f"line {place}, byte {column}: {LINE[code](job, place, column)}"
+    return WHOLE[code](job) if code in WHOLE else f"code {code}, place {place}, column {column}"
 
 
 # ---- codes of the whole job ----------------------------------------------------------------------------------------------------------
@@ -138,7 +138,7 @@ EDGE = {5: no_state, 6: unsorted, 7: unused_mark}
 # ---- codes with a line ---------------------------------------------------------------------------------------------------------------
 
 
-def wrong_key(job, place):
+def wrong_key(job, place, column):
     expected, line = job.expected(place), job.line(place)
     key, equals, _ = line.partition(b"=")
     if expected is None:
@@ -186,59 +186,68 @@ def number_hint(value):
     return None if len(value) < 6 and int(value) <= 65_535 else "a number is at most 65535"
 
 
-def kind_hint(job, value):
+# What is wrong with a value whose first wrong byte stands at `at` in it, from 0; its end is the newline.
+
+
+def kind_hint(job, value, at):
     return "kinds are written in lower case" if value.lower().decode("ascii", "replace") in COUNTS else "the kinds are buchi, streett and rabin"
 
 
-def need_hint(job, value):
+def field_at(value, at):
+    """The field in which a byte stands, or which it ends, and how many fields stand before it."""
+    before = value[:at].count(b",")
+    return value.split(b",")[before], before
+
+
+def need_hint(job, value, at):
     count = job.number("count") if job.kind() == "rabin" else 0
     if count == 0:
         return "it must be `-`; only rabin with a count above 0 has needs"
-    needs = value.split(b",")
-    if value == b"-" or len(needs) != count:
-        return f"rabin {count} takes {count} number{'s' if count > 1 else ''}" + (" with commas between" if count > 1 else "")
-    return next(filter(None, map(number_hint, needs)), None)
+    takes = f"rabin {count} takes {count} number{'s' if count > 1 else ''}" + (" with commas between" if count > 1 else "")
+    return takes if value == b"-" else number_hint(field_at(value, at)[0]) or takes
 
 
-def edge_hint(job, value):
-    parts = value.split(b",")
-    if len(parts) != 3:
-        return "an edge is from,to,marks"
-    return number_hint(parts[0]) or number_hint(parts[1]) or marks_hint(parts[2])
+def edge_hint(job, value, at):
+    field, before = field_at(value, at)
+    return (number_hint(field) if before < 2 else marks_hint(field, value[at : at + 1])) or "an edge is from,to,marks"
 
 
-def marks_hint(marks):
+def marks_hint(marks, wrong):
+    """What is wrong with marks, of which this is the first wrong byte or none; None if they are in order."""
     if marks[:2].lower() == b"0x":
         return "the marks are hex digits without 0x"
-    if not re.fullmatch(rb"[0-9a-fA-F]*", marks):
+    if wrong in (b"A", b"B", b"C", b"D", b"E", b"F"):
+        return "capital hex digits, they are lower-case"
+    if wrong and wrong not in b"0123456789abcdef,":
         return f"the marks are hex digits, not {shown(marks)}"
-    return f"the marks are eight hex digits, here are {len(marks)}" if len(marks) != 8 else "capital hex digits, they are lower-case"
+    return f"the marks are eight hex digits, here are {len(marks)}" if len(marks) != 8 else None
 
 
-def wrong_value(job, place):
+def wrong_value(job, place, column):
     expected = job.expected(place)
     value = job.line(place).partition(b"=")[2]
-    return f"a value is not of its form: {value_hint(job, expected, value)}"
+    return f"a value is not of its form: {value_hint(job, expected, value, column - len(expected) - 2)}"
 
 
-def value_hint(job, key, value):
-    if value.endswith(b"\r"):
+def value_hint(job, key, value, at):
+    wrong = value[at:]
+    if wrong == b"\r":
         return "the line ends in CR LF, it must end in a newline alone"
     if not value:
         return "nothing stands behind the `=`"
-    if value[-1:] in (b" ", b"\t"):
+    if wrong and not wrong.strip(b" \t"):
         return "a blank stands at its end"
-    if b" " in value or b"\t" in value:
+    if wrong[:1] in (b" ", b"\t"):
         return "there is a blank in it"
     if key == "end":
         return "the last line is `end=job`"
     if key == "form":
         return "the line is `form=2`, or it is left out"
-    hint = {"kind": kind_hint, "need": need_hint, "edge": edge_hint}.get(key, lambda job, value: number_hint(value))(job, value)
+    hint = {"kind": kind_hint, "need": need_hint, "edge": edge_hint}.get(key, lambda job, value, at: number_hint(value))(job, value, at)
     return hint or shown(value)
 
 
-def above_limits(job, place):
+def above_limits(job, place, column):
     key = job.expected(place)
     return f"above the program's limits: {LIMITS[key] if key in LIMITS else f'{job.kind()} takes {COUNTS[job.kind()]}'} at most"
 

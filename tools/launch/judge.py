@@ -15,7 +15,7 @@ use: tools/judge [--quiet] [FILE]    judges the job text in FILE, or on standard
      tools/judge --help | --version
 
 A text that begins with `HOA:`, blanks and comments aside, is taken for one in the Hanoi format and judged as tools/judge_hoa does; every other text is a job text.
-Standard output: the answer, seven lines. Standard error: one sentence on what it means and, if the job is refused, where to look; not with --quiet.
+Standard output: the answer, eight lines. Standard error: one sentence on what it means and, if the job is refused, where to look; not with --quiet.
 Exit status: 0 empty, 1 run, 2 refused, 3 no answer (also for wrong use). README.md has the job text, the answer and the codes.
 """
 

@@ -12,7 +12,7 @@ USE = """\
 use: tools/judge_hoa [--quiet] [FILE]    judges the text in the Hanoi format (HOA, version 1) in FILE, or on standard input
      tools/judge_hoa --help | --version
 
-Standard output: the answer, seven lines. Standard error: one sentence on what it means and where in the text to look; not with --quiet.
+Standard output: the answer, eight lines. Standard error: one sentence on what it means and where in the text to look; not with --quiet.
 Exit status: 0 empty, 1 run, 2 refused, 3 no answer (also for wrong use). examples/hoa/README.md shows texts and answers, docs/RULES.md has all that is read.
 """
 

@@ -22,7 +22,7 @@ CAUSES = {
     b"10": "the translated table would have more than 4096 states",
     b"23": "the translated table would be above the limits of a job: 256 states and 512 edges",
 }
-REFUSAL = b"verdict=refused\ncode=%s\nplace=0\npair=-\ndepth=0\nprefix=-\ncycle=-\n"
+REFUSAL = b"verdict=refused\ncode=%s\nplace=0\ncolumn=0\npair=-\ndepth=0\nprefix=-\ncycle=-\n"
 
 
 def counted(count, thing):

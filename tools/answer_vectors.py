@@ -4,8 +4,9 @@
   tools/answer_vectors.py write                  writes tests/answers, and stdin and stdout of crates/check_answer
   tools/answer_vectors.py same                   fails if the files there are not what `write` would write
   tools/answer_vectors.py show NAME              prints one input, a job and then an answer
-  tools/answer_vectors.py run PROGRAM JUDGE      runs the program check_answer on those inputs, on long ones, on damaged ones and on what the judge program answers to the
-                                                 examples, the large jobs and random jobs, and checks all that is printed
+  tools/answer_vectors.py run PROGRAM JUDGE      runs the program check_answer on those inputs, on long ones, on damaged ones, on random lassos and on what the judge program answers to the
+                                                 examples, the large jobs and random jobs, also with the cycle repeated and with a step changed, and checks all
+                                                 that is printed
 
 tests/answers/inputs: for each input its name, its length and a newline, then exactly that many bytes. tests/answers/results: for each its name and the values of the
 six lines that are printed for it.
@@ -373,7 +374,7 @@ def long_inputs():
 
 
 def damaged(count=400):
-    """One byte of a good answer changed, left out or put in; a step of it changed."""
+    """One byte of a good answer changed, left out or put in."""
     dice = random.Random(103)
     wholes = [(TABLE_A, printed(prefix="0,1,2,1", cycle="2,1,2,1")), (RABIN, printed(pair="0", prefix="0", cycle="1,1,1")), (HALTS, printed(prefix="0,stop", cycle="stop,stop"))]
     for number in range(count):
@@ -382,14 +383,6 @@ def damaged(count=400):
         new = dice.choice("0123456789,-=\n stop")
         how = dice.randrange(3)
         yield f"damaged {number}", text + answer[:at] + ("" if how == 1 else new) + answer[at + (how < 2) :], None
-
-
-def inputs():
-    """All that the program is run on without the judge: name, input, what is due by hand."""
-    return [(name, text.encode(), by_hand) for part in (cases, long_inputs, damaged) for name, text, by_hand in part()]
-
-
-# ---- what the judge answers ------------------------------------------------------------------------------------------------------------
 
 
 def random_job(dice):
@@ -408,6 +401,40 @@ def random_job(dice):
     return text
 
 
+def strolls(count=400):
+    """Random lassos of random jobs: accepted or not by their condition alone."""
+    dice = random.Random(13)
+    for number in range(count):
+        text = random_job(dice)
+        try:
+            table = job_vectors.read(text.encode())
+        except job_vectors.Refused:
+            continue
+        if job_vectors.refusal(table) is None:
+            prefix, cycle = stroll(table, dice)
+            pair = str(dice.randrange(table["count"] + 1)) if table["kind"] == "rabin" else "-"
+            yield f"stroll {number}", text + printed(pair=pair, prefix=",".join(prefix) or "-", cycle=",".join(cycle)), None
+
+
+def stroll(table, dice):
+    """Steps at random, until a state is met once more."""
+    met_at, state, steps = {}, table["start"], []
+    while state not in met_at or dice.random() < 0.3:
+        met_at.setdefault(state, len(steps))
+        ways = [(str(edge), arrives) for edge, (leaves, arrives, _) in enumerate(table["edges"]) if leaves == state]
+        step, state = dice.choice(ways) if ways else ("stop", state)
+        steps.append(step)
+    return steps[: met_at[state]], steps[met_at[state] :]
+
+
+def inputs():
+    """All that the program is run on without the judge: name, input, what is due by hand."""
+    return [(name, text.encode(), by_hand) for part in (cases, long_inputs, damaged, strolls) for name, text, by_hand in part()]
+
+
+# ---- what the judge answers ------------------------------------------------------------------------------------------------------------
+
+
 def judged_jobs():
     """Jobs for the judge, whose answers are then checked."""
     dice = random.Random(1003)
@@ -419,12 +446,31 @@ def judged_jobs():
         yield f"random job {number}", random_job(dice).encode()
 
 
+def lists(answer):
+    """The steps of the prefix and of the cycle, as they are printed."""
+    found = [re.search(rf"^{key}=(.*)$", answer, re.M)[1] for key in ("prefix", "cycle")]
+    return [[] if value == "-" else value.split(",") for value in found]
+
+
+def with_lists(answer, prefix, cycle):
+    """The answer with other steps."""
+    lines = {"prefix": ",".join(prefix) or "-", "cycle": ",".join(cycle) or "-"}
+    return "".join(f"{key}={lines.get(key, value)}\n" for key, value in (line.split("=", 1) for line in answer.splitlines()))
+
+
 def repeated(answer, times):
     """The answer with its cycle gone round as often, and once more in the prefix: it is a run if the answer is."""
-    prefix, cycle = (re.search(rb"^%s=(.*)$" % key, answer, re.M)[1] for key in (b"prefix", b"cycle"))
-    first = cycle if prefix == b"-" else prefix + b"," + cycle
-    lines = {b"prefix": first, b"cycle": b",".join([cycle] * times)}
-    return b"".join(b"%s=%s\n" % (key, lines.get(key, value)) for key, value in (line.split(b"=", 1) for line in answer.splitlines()))
+    prefix, cycle = lists(answer)
+    return with_lists(answer, prefix + cycle, cycle * times)
+
+
+def changed(answer, dice):
+    """The answer with a step of it changed, left out or put in."""
+    both = lists(answer)
+    steps = both[dice.randrange(2)]
+    at = dice.randrange(len(steps) + 1)
+    steps[at : at + dice.randrange(2)] = dice.choice([[], [str(dice.randrange(12))], [str(dice.randrange(6))], ["stop"], ["65534"]])
+    return with_lists(answer, *both)
 
 
 # ---- the files and the program ---------------------------------------------------------------------------------------------------------
@@ -470,12 +516,15 @@ def run(program, judge):
     tally = Tally(program)
     for name, text, by_hand in inputs():
         tally.check(name, text, by_hand)
+    dice = random.Random(10_003)
     for name, text in judged_jobs():
-        answer = subprocess.run([judge], input=text, stdout=subprocess.PIPE, check=True).stdout
-        runs = answer.startswith(b"verdict=run\n")
-        tally.check(f"{name}, judged", text + answer, ACCEPTED if runs else None)
+        answer = subprocess.run([judge], input=text, stdout=subprocess.PIPE, check=True).stdout.decode()
+        runs = answer.startswith("verdict=run\n")
+        tally.check(f"{name}, judged", text + answer.encode(), ACCEPTED if runs else None)
         if runs and len(answer) < 20_000:
-            tally.check(f"{name}, judged, gone round three times", text + repeated(answer, 3), ACCEPTED)
+            tally.check(f"{name}, judged, gone round three times", text + repeated(answer, 3).encode(), ACCEPTED)
+            for number in range(3):
+                tally.check(f"{name}, judged, a step changed, {number}", text + changed(repeated(answer, 2), dice).encode())
     print(f"{tally.passed} passed, {tally.failed} failed")
     return tally.failed == 0
 

@@ -27,9 +27,9 @@
 #include <stdint.h>
 
 /* The version of this header; mukhadero_version() gives that of the archive. They must be equal. */
-#define MUKHADERO_VERSION_STRING "1.3.0"
-#define MUKHADERO_VERSION_MAJOR  1
-#define MUKHADERO_VERSION_MINOR  3
+#define MUKHADERO_VERSION_STRING "2.0.0"
+#define MUKHADERO_VERSION_MAJOR  2
+#define MUKHADERO_VERSION_MINOR  0
 #define MUKHADERO_VERSION_PATCH  0
 #define MUKHADERO_VERSION (10000 * MUKHADERO_VERSION_MAJOR + 100 * MUKHADERO_VERSION_MINOR + MUKHADERO_VERSION_PATCH)
 

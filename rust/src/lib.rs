@@ -57,7 +57,7 @@ pub use job::{write_job, MOST_JOB_BYTES};
 pub use refusal::{Cause, Refusal};
 
 /// The version of this crate as the archive numbers its own: 10,000 for the major number, 100 for the minor, 1 for the patch.
-pub const VERSION: u32 = 10_300;
+pub const VERSION: u32 = 20_000;
 
 /// The version of the linked archive; an archive that fits this crate gives [`VERSION`].
 ///

@@ -15,13 +15,13 @@ use marks::Marks;
 use one_mark::translate;
 use table::Acceptance;
 
-// 1.3.0: 10,000 for the major number, 100 for the minor, 1 for the patch; as MUKHADERO_VERSION of the header
-const VERSION: u32 = 10300;
+// 2.0.0: 10,000 for the major number, 100 for the minor, 1 for the patch; as MUKHADERO_VERSION of the header
+const VERSION: u32 = 20000;
 
 // The version of this archive.
 #[no_mangle]
 pub extern "C" fn mukhadero_version() -> u32
-    ensures { λ r. ⌜ r ≡ 10300 ⌝ }
+    ensures { λ r. ⌜ r ≡ 20000 ⌝ }
 {
     VERSION
 }

@@ -61,7 +61,7 @@ macro_rules! table {
 /// The version of the header that this stands in for.
 #[no_mangle]
 pub extern "C" fn mukhadero_version() -> u32 {
-    10_300
+    20_000
 }
 
 /// # Safety

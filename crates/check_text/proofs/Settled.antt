@@ -1,7 +1,7 @@
 -- An input longer than the longest job and the longest answer text together is settled by its first bytes, one more than these: whatever follows changes nothing. So the
 -- program need not read on. Assumes nothing.
 use mathlib.Core.Path.{_≡_, refl, sym, ap, _∙_, subst}
-use mathlib.Core.Bool.{true, false}
+use mathlib.Core.Bool.{Bool, true, false}
 use mathlib.Core.Logic.{_⊎_, inl, inr}
 use mathlib.Core.List.{List, [], _∷_, _++_}
 use Prim.Native.Nat.{ℕ, zero, suc, _+_, _≤_, _<_, zero-le, suc-le-suc}
@@ -13,12 +13,11 @@ use lib.Seq.{take-append-le, drop-append-le}
 use borrow.Author.Tests.{lt-ltb}
 use Rattle.marks.proofs.Cases.{below}
 use Rattle.job_text.specs.Text.{newline, lines, same, ahead}
-use Rattle.job_text.specs.Job.{Outcome, mostBytes}
+use Rattle.job_text.specs.Job.{Outcome, mostBytes, ColumnIf}
 use Rattle.job_text.proofs.Text.{byTest, lines-cut, lines-uncut}
 use Rattle.job_text.proofs.Jobs.{too-long}
 use Rattle.answer_check.specs.declared.Checked.{Checked}
-use Rattle.answer_check.specs.declared.Checked.the-variants.{Refused}
-use Rattle.answer_check.specs.Checking.{ByJob, Checks}
+use Rattle.answer_check.specs.Checking.{TextRefused, ByJob, Checks}
 use Rattle.check_text.specs.Split.{endLine, sizeFrom, jobSize, jobPart, answerPart, mostAnswer, heard}
 use Rattle.check_text.specs.Replied.{CheckReplied}
 use Rattle.check_text.proofs.Splits.{unended-size}
@@ -142,10 +141,13 @@ module _ (seen rest : List ℕ) (r : Checked) (long : mostBytes + mostAnswer < l
   -- the job is too long, and stays so
   job-long : mostBytes < jobSize seen → mostBytes < jobSize (seen ++ rest) → Checks (jobPart (seen ++ rest)) (heard (answerPart (seen ++ rest))) r
   job-long l m =
-      let before = too-long (jobPart seen) (omega (arith, long, l, length-take (jobSize seen) seen)) in
-      let now = too-long (jobPart (seen ++ rest)) (omega (arith, long, m, length-take (jobSize (seen ++ rest)) (seen ++ rest), length-append seen rest)) in
-      let told : r ≡ Refused 20 0 = subst (λ (o : Outcome). ByJob o (heard (answerPart seen)) r) before C in
-      subst (λ (o : Outcome). ByJob o (heard (answerPart (seen ++ rest))) r) (sym now) told
+      let one : mostBytes < length (jobPart seen) = omega (arith, long, l, length-take (jobSize seen) seen) in
+      let other : mostBytes < length (jobPart (seen ++ rest)) = omega (arith, long, m, length-take (jobSize (seen ++ rest)) (seen ++ rest), length-append seen rest) in
+      let told : TextRefused (jobPart seen) 20 0 r = subst (λ (o : Outcome). ByJob (jobPart seen) o (heard (answerPart seen)) r) (too-long (jobPart seen) one) C in
+      let none : told .column ≡ 0 = subst (λ (b : Bool). ColumnIf b (lines (jobPart seen)) (told .column)) (lt-ltb mostBytes (length (jobPart seen)) one) (told .first) in
+      let first = subst (λ (b : Bool). ColumnIf b (lines (jobPart (seen ++ rest))) (told .column)) (sym (lt-ltb mostBytes (length (jobPart (seen ++ rest))) other)) none in
+      subst (λ (o : Outcome). ByJob (jobPart (seen ++ rest)) o (heard (answerPart (seen ++ rest))) r) (sym (too-long (jobPart (seen ++ rest)) other))
+      (record { column = told .column; first = first; told = told .told })
 
   -- the answer text is too long, and stays so
   answer-long : jobSize seen ≤ mostBytes → jobSize (seen ++ rest) ≡ jobSize seen → Checks (jobPart (seen ++ rest)) (heard (answerPart (seen ++ rest))) r

@@ -21,6 +21,7 @@ from pathlib import Path
 sys.dont_write_bytecode = True
 sys.path.insert(0, str(Path(__file__).resolve().parent))
 import job_vectors
+import stored
 from job_vectors import form2, job
 
 ROOT = Path(__file__).resolve().parent.parent
@@ -491,12 +492,6 @@ def files():
     return {STORED / "inputs": inputs, STORED / "results": results, CRATE / "stdin": stdin, CRATE / "stdout": stdout}
 
 
-def differing():
-    for path, contents in files().items():
-        if not path.exists() or path.read_bytes() != contents:
-            yield f"{path.name} is not what `write` would write"
-
-
 class Tally:
     def __init__(self, program):
         self.program, self.passed, self.failed = program, 0, 0
@@ -531,14 +526,10 @@ def run(program, judge):
 
 def main(words):
     if words == ["write"]:
-        STORED.mkdir(parents=True, exist_ok=True)
-        for path, contents in files().items():
-            path.write_bytes(contents)
+        stored.write(files())
         return True
     if words == ["same"]:
-        faults = list(differing())
-        print("".join(fault + "\n" for fault in faults), end="")
-        return not faults
+        return stored.told(stored.unlike(files()))
     if len(words) == 2 and words[0] == "show":
         sys.stdout.write({name: text for name, text, _ in cases()}[words[1]])
         return True

@@ -31,6 +31,7 @@ import hoa_grammar
 import hoa_reader
 import hoa_texts
 import job_vectors
+import stored
 
 STORED = ROOT / "tests" / "hoa"
 EXAMPLES = ROOT / "examples"
@@ -245,9 +246,7 @@ def files():
 
 def differing():
     """What differs between the files, what was worked out by hand, and the two readings."""
-    for path, contents in files().items():
-        if not path.exists() or path.read_bytes() != contents:
-            yield f"{path.relative_to(ROOT)} is not what `write` would write"
+    yield from stored.unlike(files())
     for name, text, _, by_hand in hoa_texts.all_texts():
         if not result(text).startswith(by_hand):
             yield f"{name!r}: {result(text)}, by hand {by_hand}"
@@ -262,15 +261,9 @@ def differing():
 def main(arguments):
     match arguments:
         case ["write"]:
-            contents = files()
-            for path in contents:
-                path.parent.mkdir(parents=True, exist_ok=True)
-                path.write_bytes(contents[path])
-            print(f"{len(contents)} files, {sum(map(len, contents.values()))} bytes")
+            stored.write(files())
         case ["same"]:
-            faults = list(differing())
-            print(*faults, sep="\n", end="\n" if faults else "")
-            return not faults
+            return stored.told(differing())
         case ["list"]:
             for number, (name, text, *_) in enumerate(hoa_texts.all_texts()):
                 print(number, name.encode("unicode_escape").decode(), result(text), sep="\t")

@@ -16,6 +16,7 @@ from pathlib import Path
 sys.dont_write_bytecode = True
 sys.path.insert(0, str(Path(__file__).resolve().parent))
 import job_vectors
+import stored
 from job_vectors import form2, job
 
 STORED = Path(__file__).resolve().parent.parent / "tests" / "translated"
@@ -157,9 +158,7 @@ def files():
 
 
 def differing():
-    for path, contents in files().items():
-        if not path.exists() or path.read_bytes() != contents:
-            yield f"{path.name} is not what `write` would write"
+    yield from stored.unlike(files())
     for path in STORED.glob("*.*"):
         if path.suffix in (".job", ".out") and path not in files():
             yield f"{path.name} belongs to no case"
@@ -192,14 +191,10 @@ def run(program):
 
 def main(words):
     if words == ["write"]:
-        STORED.mkdir(parents=True, exist_ok=True)
-        for path, contents in files().items():
-            path.write_bytes(contents)
+        stored.write(files())
         return True
     if words == ["same"]:
-        faults = list(differing())
-        print("".join(fault + "\n" for fault in faults), end="")
-        return not faults
+        return stored.told(differing())
     if len(words) == 2 and words[0] == "run":
         return run(words[1])
     sys.exit(__doc__)

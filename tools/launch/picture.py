@@ -1,7 +1,9 @@
 """tools/picture: draws the table of a job text, or of a text in the Hanoi format, with the run that was found in it. The programs (crates `judge` and `judge_hoa`) read and
 judge; this draws what they printed, and decides nothing."""
 
+import errno
 import os
+import shutil
 import subprocess
 import sys
 
@@ -48,6 +50,8 @@ def dot_text(read_table, names, text, output):
 
 
 def svg_of(dot):
+    if shutil.which("dot") is None:  # a folder of the path that is closed to this user would be the fault that is told, else
+        raise manners.NoAnswer(NO_DOT.format(os.strerror(errno.ENOENT)))
     try:
         drawn = subprocess.run(["dot", "-Tsvg"], input=dot, stdout=subprocess.PIPE, stderr=subprocess.PIPE)
     except OSError as error:

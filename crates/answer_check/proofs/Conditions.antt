@@ -3,7 +3,7 @@ use mathlib.Core.Path.{_≡_, refl, sym, ap, _∙_, subst}
 use mathlib.Core.Bool.{Bool, true, false, false≢true}
 use mathlib.Core.Logic.{_↔_}
 use mathlib.Core.List.{List}
-use Prim.Native.Nat.{ℕ, zero, suc, _+_, _*_, _≤_, _<_}
+use Prim.Native.Nat.{ℕ, zero, suc, _+_, _≤_, _<_}
 use native.Mathlib.Omega.{arith}
 use native.Mathlib.Nat.{le-refl}
 use native.Mathlib.Numerals.{add-one}
@@ -13,9 +13,9 @@ use Rattle.marks.proofs.Cases.{same}
 use Rattle.marks.proofs.Laws.{has-first}
 use Rattle.table.specs.declared.Acceptance.{Acceptance}
 use Rattle.table.specs.declared.Acceptance.the-variants.{Buchi, Streett, Rabin}
-use Rattle.table.specs.Condition.{need, dealt, MeetsPair}
+use Rattle.table.specs.Condition.{dealt}
 use Rattle.table.specs.Refusal.{mostStreett, wrongCondition}
-use Rattle.table.proofs.Sound.{used-few, rabin-few}
+use Rattle.table.proofs.Sound.{used-few}
 use Rattle.answer_check.specs.Fault.{Meets}
 
 -- ---- marks dealt out

@@ -1,21 +1,19 @@
 -- Walking a list of edges, edge by edge. Assumes nothing.
 use mathlib.Core.Path.{_≡_, refl, sym, ap, _∙_, subst}
-use mathlib.Core.Bool.{Bool, true, false, false≢true}
+use mathlib.Core.Bool.{true, false, false≢true}
 use mathlib.Core.Logic.{_⊎_, inl, inr}
 use mathlib.Core.List.{List, [], _∷_, _++_}
-use mathlib.Core.Option.{Option, some, none}
-use Prim.Native.Nat.{ℕ, zero, suc, _+_, _-_, _≤_, _<_, zero-le}
-use native.Mathlib.Nat.{add-zero}
+use mathlib.Core.Option.{some, none}
+use Prim.Native.Nat.{ℕ, suc, _+_, _-_, _≤_, _<_, zero-le}
 use native.Mathlib.Numerals.{add-one}
 use native.Mathlib.Omega.{arith}
 use lib.ListN.{length, getD, take, drop, length-drop}
-use lib.Seq.{take-suc, take-all, take-length, drop-cons, drop-drop}
+use lib.Seq.{take-suc, take-all, drop-cons}
 use Rattle.marks.specs.Mark.{union, has}
 use Rattle.marks.proofs.Laws.{has-none, has-union, same-marks}
-use Rattle.table.specs.Table.{Table, waiting, Edge, Stop, Step, Walk, borne, marksOf}
-use Rattle.table.specs.Refusal.{Proper}
+use Rattle.table.specs.Table.{Table, waiting, Stop, Step, Walk, borne, marksOf}
 use Rattle.table.specs.Row.{part}
-use Rattle.table.proofs.Walks.{walk-snoc, marks-append, proper-apart, stop-step}
+use Rattle.table.proofs.Walks.{walk-snoc, marks-append, proper-apart}
 use Rattle.job_text.specs.Text.{comma, fields, FirstAt}
 use Rattle.job_values.proofs.Cut.{left, left-cut}
 use Rattle.answer_check.specs.declared.walk.Place.{Place}
@@ -23,9 +21,8 @@ use Rattle.answer_check.specs.declared.walk.Went.{Went}
 use Rattle.answer_check.specs.declared.walk.Went.the-variants as went
 use Rattle.answer_check.specs.declared.walk.Walked.{Walked}
 use Rattle.answer_check.specs.declared.walk.Walked.the-variants as walked
-use Rattle.answer_check.specs.Fault.{Breaks}
 use Rattle.answer_form.specs.Given.{step, steps}
-use Rattle.answer_check.specs.inner.{LeftBy, Lies, Stands, Goes, WentSays, WaitSays, GoSays, Through, WalkedSays, WalkSays}
+use Rattle.answer_check.specs.inner.{LeftBy, Lies, Stands, Goes, WentSays, WaitSays, GoSays, Through, WalkSays}
 use Rattle.answer_form.proofs.Digits.{none-some, some-same}
 use Rattle.answer_form.proofs.Lists.{Stepped, stepped, no-steps}
 use Rattle.answer_form.proofs.Forms.{left-all, left-none}

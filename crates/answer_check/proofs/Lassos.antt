@@ -8,7 +8,7 @@ use Prim.Native.Nat.{ℕ, _<_}
 use native.Mathlib.Omega.{arith}
 use lib.ListN.{length}
 use Rattle.table.specs.declared.Acceptance.{Acceptance}
-use Rattle.table.specs.Table.{Table, Walk, marksOf}
+use Rattle.table.specs.Table.{Walk, marksOf}
 use Rattle.answer_check.specs.declared.Fault.the-variants as fault
 use Rattle.answer_check.specs.declared.Fault.{Fault}
 use Rattle.answer_check.specs.declared.Checked.the-variants as checked
@@ -16,7 +16,6 @@ use Rattle.answer_check.specs.declared.walk.Walked.the-variants as walke
 use Rattle.answer_check.specs.declared.walk.Walked.{Walked}
 use Rattle.answer_check.specs.declared.walk.Place.{Place}
 use Rattle.answer_check.specs.declared.lasso.Turned.the-variants as turned
-use Rattle.answer_check.specs.declared.lasso.Turned.{Turned}
 use Rattle.answer_check.specs.Fault.{Breaks, Meets, Judged}
 use Rattle.answer_form.specs.Given.{listGiven}
 use Rattle.answer_check.specs.inner.{Lies, Stands, Named, KnotSays, outset, afresh, Through, WalkedSays, WalkSays, Closes, TurnedSays}

@@ -2,10 +2,9 @@
 use mathlib.Core.Path.{_≡_, refl, sym, ap, _∙_, subst}
 use mathlib.Core.Bool.{Bool, false}
 use mathlib.Core.List.{List, map}
-use mathlib.Core.Option.{some, none}
+use mathlib.Core.Option.{none}
 use Prim.Native.Nat.{ℕ, _-_}
-use native.Mathlib.Omega.{arith}
-use lib.ListN.{length, take, drop}
+use lib.ListN.{take, drop}
 use Rattle.table.specs.declared.Acceptance.{Acceptance}
 use Rattle.table.specs.declared.Finding.{Finding}
 use Rattle.table.specs.declared.Finding.the-variants.{Sound, Refused}
@@ -17,7 +16,6 @@ use Rattle.job_text.specs.declared.reader.Reading.{Reading}
 use Rattle.job_text.specs.Value.{Edge, padTo}
 use Rattle.job_text.specs.Job.{mostJobEdges, Job, Outcome, job, fault, readJob, Column}
 use Rattle.job_text.specs.Reading.{readingOf, cellsOf, Read}
-use Rattle.job_text.specs.Asked.{jobTable}
 use Rattle.job_text.proofs.Tables.{unlike, part-is}
 use Rattle.answer_text.specs.Printed.{isRabin}
 use Rattle.answer_check.specs.declared.Checked.{Checked}

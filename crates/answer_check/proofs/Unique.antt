@@ -2,7 +2,7 @@
 -- Assumes nothing.
 use mathlib.Core.Path.{_≡_, refl, sym, ap, _∙_, subst}
 use mathlib.Core.Logic.{_↔_, _⊎_, inl, inr}
-use mathlib.Core.List.{List, [], _∷_, _++_}
+use mathlib.Core.List.{List, [], _∷_}
 use Prim.Native.Nat.{ℕ, zero, suc, _<_}
 use native.Mathlib.Omega.{arith}
 use lib.ListN.{length, getD, take, length-take}
@@ -12,16 +12,16 @@ use Rattle.table.specs.declared.Acceptance.{Acceptance}
 use Rattle.table.specs.declared.Acceptance.the-variants.{Buchi, Streett, Rabin}
 use Rattle.table.specs.declared.Finding.{Finding}
 use Rattle.table.specs.declared.Finding.the-variants.{Sound, Refused}
-use Rattle.table.specs.Table.{Table, waiting, Edge, Stop, Step, Walk, Lasso, marksOf}
-use Rattle.table.specs.Condition.{MeetsPair, Accepts, Accepted}
+use Rattle.table.specs.Table.{Table, Step, Walk, Lasso, marksOf}
+use Rattle.table.specs.Condition.{Accepts, Accepted}
 use Rattle.job_text.specs.Job.{Job, Outcome, job, fault as faulty, readJob}
 use Rattle.job_text.specs.Asked.{jobTable, firstCause}
 use Rattle.job_text.proofs.Promises.{one-column}
 use Rattle.answer_check.specs.declared.Checked.{Checked}
 use Rattle.answer_check.specs.declared.Checked.the-variants as checked
 use Rattle.answer_check.specs.declared.Fault.the-variants as fault
-use Rattle.answer_form.specs.Form.{Said, run, Says, Malformed, NoRun}
-use Rattle.answer_check.specs.Fault.{Breaks, Open, BadCycle, NoCycle, Meets, Unmet, Holds, Judged}
+use Rattle.answer_form.specs.Form.{run}
+use Rattle.answer_check.specs.Fault.{Breaks, Open, BadCycle, NoCycle, Meets, Holds, Judged}
 use Rattle.answer_check.specs.Checking.{RunJudged, Told, malformed, no-run, run-judged, ByCause, ByJob, Checks, NamesAccepted}
 use Rattle.answer_form.proofs.Inverse.{one-said}
 

@@ -10,7 +10,6 @@ use Rattle.table.specs.Table.{Table, Step, Walk, Lasso, marksOf}
 use Rattle.table.specs.Condition.{MeetsPair, Accepts}
 use Rattle.answer_check.specs.declared.Checked.{Checked}
 use Rattle.answer_check.specs.declared.Checked.the-variants.{Accepted, Rejected, Refused}
-use Rattle.answer_check.specs.declared.Fault.{Fault}
 use Rattle.answer_check.specs.declared.Fault.the-variants.{Prefix, Empty, Cycle, Condition}
 
 -- the list es, walked from s, breaks at position i: up to there it is a walk, and the edge there leads nowhere from where it has come

@@ -6,15 +6,14 @@ use mathlib.Core.Option.{Option, some, none}
 use Prim.Native.Nat.{ℕ, zero, suc, _+_, _-_, _*_, _/_, _%_, _≤_, _<_}
 use native.Mathlib.Omega.{arith}
 use lib.Dec.{leb, ltb, eqb}
-use lib.ListN.{length, getD, length-append}
-use borrow.Author.Tests.{le-leb, leb-true, lt-ltb, le-ltb, ne-eqb, eq-eqb}
+use lib.ListN.{length}
+use borrow.Author.Tests.{le-leb, leb-true, lt-ltb, le-ltb, ne-eqb}
 use Rattle.marks.proofs.Cases.{below}
 use Rattle.puts.specs.Put.{decimalIn, decimal}
 use Rattle.puts.proofs.Puts.{decimal-one, decimal-more}
 use Rattle.digits.specs.Digit.{between, digit}
 use Rattle.digits.proofs.Digits.{within}
 use Rattle.job_text.specs.Value.{andThen, spelt, mostNumber, leadingZero, atMost, number}
-use Rattle.job_text.proofs.Text.{byTest}
 
 -- ---- what an answer that is there says of the tests before it
 

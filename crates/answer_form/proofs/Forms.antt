@@ -1,12 +1,12 @@
 -- A text read from a place on: a value with the word behind it, a run's values, and the list of edges field by field. Assumes nothing.
 use mathlib.Core.Path.{_≡_, refl, sym, ap, _∙_}
 use mathlib.Core.Bool.{Bool, true, false, false≢true, cond}
-use mathlib.Core.List.{List, [], _∷_, _++_}
+use mathlib.Core.List.{List, [], _∷_}
 use mathlib.Core.Option.{Option, some, none}
-use Prim.Native.Nat.{ℕ, suc, _+_, _-_, _≤_, _<_, zero-le}
+use Prim.Native.Nat.{ℕ, _+_, _-_, _≤_, _<_, zero-le}
 use native.Mathlib.Omega.{arith}
-use lib.Dec.{eqb, leb}
-use lib.ListN.{length, take, drop, length-append, length-take, length-drop}
+use lib.Dec.{eqb}
+use lib.ListN.{length, take, drop, length-take, length-drop}
 use lib.Seq.{drop-drop}
 use borrow.Author.Tests.{le-leb, lt-leb, eq-eqb, ne-eqb}
 use Rattle.table.specs.Row.{part}
@@ -21,8 +21,8 @@ use Rattle.job_values.proofs.Cut.{left, left-cut}
 use Rattle.answer_text.specs.Printed.{stop}
 use Rattle.answer_form.specs.declared.Value.{Value}
 use Rattle.answer_form.specs.declared.RunValues.{RunValues}
-use Rattle.answer_form.specs.Form.{Said, refused, empty}
-use Rattle.answer_form.specs.Given.{startsWith, Cut, valueThen, Ordered, cutGiven, ValueAt, step, steps, listGiven, isSome, pairGiven, thenPrefix, thenCycle, thenPlace, thenColumn, refusedTail, emptyTail, over, RunText, runText, valuesGiven, ValuesAt, Where, whereGiven, refusedGiven, emptyGiven}
+use Rattle.answer_form.specs.Form.{refused, empty}
+use Rattle.answer_form.specs.Given.{startsWith, valueThen, ValueAt, step, steps, listGiven, isSome, pairGiven, thenPrefix, thenCycle, thenPlace, thenColumn, refusedTail, emptyTail, runText, ValuesAt, whereGiven, refusedGiven, emptyGiven}
 use Rattle.answer_form.proofs.Digits.{some-same}
 use Rattle.answer_form.proofs.Lists.{same-is}
 

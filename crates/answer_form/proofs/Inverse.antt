@@ -2,24 +2,24 @@
 -- Assumes nothing.
 use mathlib.Core.Path.{_≡_, refl, sym, ap, _∙_}
 use mathlib.Core.Bool.{Bool, true, false, false≢true, cond}
-use mathlib.Core.List.{List, [], _∷_, _++_, append-nil, append-assoc}
+use mathlib.Core.List.{List, [], _∷_, _++_, append-assoc}
 use mathlib.Core.Option.{Option, some, none}
-use Prim.Native.Nat.{ℕ, zero, suc, _+_, _≤_, _<_}
+use Prim.Native.Nat.{ℕ, suc, _+_, _≤_}
 use native.Mathlib.Omega.{arith}
 use lib.Dec.{eqb}
 use lib.ListN.{length, take, drop, take-append-drop}
 use lib.Seq.{take-append-seam, drop-append-seam, take-length}
-use borrow.Author.Tests.{ne-eqb, eqb-true}
+use borrow.Author.Tests.{ne-eqb}
 use Rattle.table.specs.declared.Acceptance.{Acceptance}
 use Rattle.table.specs.declared.Verdict.the-variants.{Run, Empty, Refused}
 use Rattle.puts.specs.Put.{decimalIn, decimal}
 use Rattle.job_text.specs.Text.{newline, same, ahead}
-use Rattle.job_text.specs.Value.{andThen, dash, mostNumber, number}
+use Rattle.job_text.specs.Value.{dash, mostNumber, number}
 use Rattle.job_text.proofs.Text.{byTest}
 use Rattle.answer_text.specs.Printed.{shown, verdict=, code=, place=, column=, pair=, depth=, prefix=, cycle=, verdictWord, isRabin, pairText, listText, headText, topText, bottomText, answerText}
 use Rattle.answer_form.specs.Form.{Said, run, empty, refused, verdictOf, columnOf, depthOf, roomOf, Ours, Says, Malformed}
 use Rattle.answer_form.specs.Given.{startsWith, Cut, valueThen, listGiven, pairGiven, runHead, thenPrefix, thenCycle, refusedHead, thenPlace, thenColumn, refusedTail, emptyHead, emptyTail, over, RunText, runText, runOf, runGiven, Where, whereGiven, refusedGiven, emptyGiven, given}
-use Rattle.answer_form.proofs.Digits.{none-some, some-same, After, after, passed, High, high-less, decimal-high, number-decimal, decimal-number}
+use Rattle.answer_form.proofs.Digits.{none-some, some-same, after, passed, High, high-less, decimal-high, number-decimal, decimal-number}
 use Rattle.answer_form.proofs.Lists.{same-refl, same-is, list-read, read-list, list-high}
 
 -- ---- a word in front, and a value before it
@@ -56,10 +56,6 @@ value-back word xs c e =
     let q : record { value = take (ahead newline xs) xs; rest = drop (length word) (drop (ahead newline xs) xs) } ≡ c = some-same (p .1) in
     let s : drop (ahead newline xs) xs ≡ word ++ drop (length word) (drop (ahead newline xs) xs) = starts-back word (drop (ahead newline xs) xs) (p .0) in
     sym (take-append-drop (ahead newline xs) xs) ∙ ap (λ (l : List ℕ). take (ahead newline xs) xs ++ l) s ∙ ap (λ (k : Cut). k .value ++ (word ++ k .rest)) q
-
--- nothing follows
-over-none : {A : Type 0} (o : Option A) → over [] o ≡ o
-over-none o = refl
 
 pub over-back : {A : Type 0} (rest : List ℕ) (o : Option A) (a : A) → over rest o ≡ some a → (rest ≡ []) × (o ≡ some a)
 over-back [] o a e = (refl, e)

@@ -1,12 +1,11 @@
 -- A list of edges is read from its printed form, and from no other bytes. Assumes nothing.
 use mathlib.Core.Path.{_≡_, refl, sym, ap, _∙_}
 use mathlib.Core.Bool.{Bool, true, false, false≢true, cond, _&&_}
-use mathlib.Core.List.{List, [], _∷_, _++_, map, append-nil, append-assoc}
-use mathlib.Core.Option.{Option, some, none}
+use mathlib.Core.List.{List, [], _∷_, _++_, map, append-nil}
+use mathlib.Core.Option.{some, none}
 use Prim.Native.Nat.{ℕ, zero, suc, _+_, _≤_, _<_}
 use native.Mathlib.Omega.{arith}
 use lib.Dec.{eqb}
-use lib.ListN.{length, getD}
 use borrow.Author.Tests.{eq-eqb, ne-eqb, eqb-true, eqb-false}
 use Rattle.marks.proofs.Cases.{same as equal}
 use Rattle.table.specs.Table.{waiting}
@@ -18,7 +17,7 @@ use Rattle.answer_text.specs.Printed.{stop, stepText, furtherText, listText}
 use Rattle.answer_text.proofs.Prints.{step-stop, step-number}
 use Rattle.answer_form.specs.Form.{Within}
 use Rattle.answer_form.specs.Given.{step, steps, listGiven}
-use Rattle.answer_form.proofs.Digits.{none-some, some-same, after, passed, unhindered, High, high-append, high-less, decimal-high, Begun, decimal-begun, number-decimal, decimal-number}
+use Rattle.answer_form.proofs.Digits.{some-same, after, unhindered, High, high-append, high-less, decimal-high, Begun, decimal-begun, number-decimal, decimal-number}
 
 -- ---- the same bytes
 

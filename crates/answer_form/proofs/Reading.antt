@@ -1,6 +1,6 @@
 -- What an answer text is, from its values: a run with its lists, another answer of ours, or none. Assumes nothing.
-use mathlib.Core.Path.{_≡_, refl, sym, ap, _∙_, subst}
-use mathlib.Core.Bool.{Bool, true, false, false≢true, cond}
+use mathlib.Core.Path.{_≡_, refl, sym, ap, _∙_}
+use mathlib.Core.Bool.{Bool, true, false, false≢true}
 use mathlib.Core.List.{List}
 use mathlib.Core.Option.{Option, some, none}
 use Prim.Native.Nat.{ℕ}
@@ -11,7 +11,7 @@ use Rattle.job_text.specs.Value.{andThen, number}
 use Rattle.answer_form.specs.declared.RunValues.{RunValues}
 use Rattle.answer_form.specs.declared.Form.{Form}
 use Rattle.answer_form.specs.Form.{Said, run, empty, refused}
-use Rattle.answer_form.specs.Given.{startsWith, valueThen, listGiven, isSome, pairGiven, runHead, thenPlace, refusedHead, emptyHead, emptyTail, RunText, runText, runOf, runGiven, whereGiven, refusedGiven, emptyGiven, given, ValuesAt, RunAt, OtherSaid, FormSays, noRun}
+use Rattle.answer_form.specs.Given.{startsWith, valueThen, listGiven, isSome, pairGiven, runHead, thenPlace, refusedHead, emptyHead, emptyTail, RunText, runText, runOf, runGiven, whereGiven, refusedGiven, emptyGiven, given, ValuesAt, RunAt, FormSays, noRun}
 use Rattle.answer_form.proofs.Digits.{some-same, after}
 use Rattle.answer_form.proofs.Inverse.{over-back}
 

@@ -1,7 +1,7 @@
 -- The rules' own examples (docs/RULES.md) of the printed answer, computed from the definitions. Assumes nothing.
 use mathlib.Core.Path.{_≡_, refl}
-use mathlib.Core.List.{List, [], _∷_}
-use Rattle.table.specs.declared.Acceptance.the-variants.{Buchi, Rabin}
+use mathlib.Core.List.{[], _∷_}
+use Rattle.table.specs.declared.Acceptance.the-variants.{Rabin}
 use Rattle.table.specs.declared.Verdict.the-variants.{Run}
 use Rattle.puts.specs.Put.{decimalIn}
 use Rattle.answer_text.specs.Printed.{stop, stepText, furtherText, listText, topText, bottomText, answerText}

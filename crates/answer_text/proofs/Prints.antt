@@ -1,19 +1,17 @@
 -- The lines of an answer, one after another, and how long they are. Assumes nothing.
 use mathlib.Core.Path.{_≡_, refl, sym, ap, _∙_}
-use mathlib.Core.Bool.{Bool, true, false, cond}
 use mathlib.Core.List.{List, [], _∷_, _++_, append-nil, append-assoc}
 use Prim.Native.Nat.{ℕ, suc, _+_, _-_, _*_, _^_, _≤_, _<_, min}
 use native.Mathlib.Nat.{add-zero}
 use native.Mathlib.Numerals.{add-one}
 use native.Mathlib.Omega.{arith}
-use lib.Dec.{eqb}
 use lib.ListN.{length, getD, take, drop, length-append, length-take, length-drop, drop-of-length-le, replicate}
 use lib.Seq.{sets, take-suc, take-length, take-all, drop-length}
 use borrow.Author.Tests.{lt-leb, le-leb, ne-eqb}
 use Rattle.marks.proofs.Cases.{below, same}
 use Rattle.table.specs.Row.{part}
 use Rattle.table.specs.Table.{waiting}
-use Rattle.puts.specs.Put.{decimal, Put, PutFew}
+use Rattle.puts.specs.Put.{decimal, Put}
 use Rattle.puts.proofs.Puts.{put-both, decimal-few, as-it-was, then-zeros}
 use Rattle.job_text.specs.Text.{comma, newline}
 use Rattle.job_text.specs.Value.{dash}

@@ -2,7 +2,7 @@
 use mathlib.Core.Path.{_≡_, refl, ap}
 use mathlib.Core.Logic.{_⊎_, inl, inr}
 use mathlib.Core.List.{List, [], _∷_, _++_}
-use Prim.Native.Nat.{ℕ, _+_, _≤_, _<_}
+use Prim.Native.Nat.{ℕ, _+_, _≤_}
 use native.Mathlib.Omega.{arith}
 use lib.ListN.{length, take, drop, length-append}
 use lib.Seq.{take-at, drop-at, take-length}
@@ -19,7 +19,7 @@ use Rattle.answer_check.specs.declared.Checked.{Checked}
 use Rattle.answer_check.specs.declared.Checked.the-variants.{Accepted, Rejected, Refused}
 use Rattle.answer_check.specs.declared.Fault.{Fault}
 use Rattle.answer_check.specs.declared.Fault.the-variants.{Prefix, Empty, Cycle, Condition}
-use Rattle.answer_form.specs.Form.{run, Says, verdictOf, roomOf}
+use Rattle.answer_form.specs.Form.{run, Says, verdictOf}
 use Rattle.answer_check.specs.Fault.{Breaks, Open, Judged}
 use Rattle.answer_check.specs.Checking.{Told, malformed, no-run, run-judged, ByCause, ByJob, Checks}
 use Rattle.check_text.specs.Split.{mostAnswer}

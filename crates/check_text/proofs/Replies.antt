@@ -9,7 +9,7 @@ use Rattle.puts.specs.Put.{PutFew}
 use Rattle.puts.proofs.Puts.{then-zeros}
 use Rattle.answer_check.specs.declared.Checked.{Checked}
 use Rattle.answer_check.specs.Checking.{Checks}
-use Rattle.check_text.specs.Split.{jobPart, answerPart, heard}
+use Rattle.check_text.specs.Split.{jobPart}
 use Rattle.check_text.specs.Replied.{checkedText, mostChecked, CheckReplied}
 use Rattle.check_text.specs.inner.{JobEnds, HeardTo}
 use Rattle.check_text.proofs.Splits.{job-is, answer-is}

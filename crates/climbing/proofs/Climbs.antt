@@ -34,10 +34,6 @@ climb-low : (x j left : ℕ) → j ≤ climb x j left
 climb-low x j zero = omega arith
 climb-low x j (suc left) = step x j left (λ h e. omega (arith, climb-low x (suc j) left)) (λ h e. omega arith)
 
-climb-high : (x j left : ℕ) → climb x j left ≤ j + left
-climb-high x j zero = omega arith
-climb-high x j (suc left) = step x j left (λ h e. omega (arith, climb-high x (suc j) left)) (λ h e. omega arith)
-
 -- every mark that was passed is borne
 climb-passed : (x j left i : ℕ) → j ≤ i → i < climb x j left → has i x
 climb-passed x j zero i l h = absurd (omega arith)
@@ -49,10 +45,6 @@ climb-passed x j (suc left) i l h =
 pub reached-low : (k x j : ℕ) → j ≤ reached k x j
 unfolding reached
 reached-low k x j = climb-low x j (k - j)
-
-pub reached-high : (k x j : ℕ) → j ≤ k → reached k x j ≤ k
-unfolding reached
-reached-high k x j l = omega (arith, climb-high x j (k - j))
 
 pub reached-passed : (k x j i : ℕ) → j ≤ i → i < reached k x j → has i x
 unfolding reached

@@ -2,10 +2,9 @@
 use mathlib.Core.Path.{_≡_, refl, sym, _∙_}
 use mathlib.Core.Bool.{Bool, true, false, false≢true, cond}
 use mathlib.Core.Logic.{_⊎_, inl, inr, ⊎-elim}
-use mathlib.Core.Option.{Option, some, none}
+use mathlib.Core.Option.{some, none}
 use Prim.Native.Nat.{ℕ, _+_, _-_, _≤_, _<_}
 use native.Mathlib.Omega.{arith}
-use lib.Dec.{leb}
 use borrow.Author.Tests.{le-leb, lt-leb}
 use Rattle.marks.proofs.Cases.{below}
 use Rattle.digits.specs.Digit.{between, digit, hexDigit}
@@ -19,9 +18,6 @@ under low high b l = rw (lt-leb low b l)
 
 pub over : (low high b : ℕ) → high < b → between low high b ≡ false
 over low high b h = below b low (under low high b) (λ l. rw (le-leb low b l, lt-leb b high h))
-
-low-end : (low high b : ℕ) → between low high b ≡ true → low ≤ b
-low-end low high b e = below b low (λ l. absurd (false≢true (sym (under low high b l) ∙ e))) (λ l. l)
 
 high-end : (low high b : ℕ) → between low high b ≡ true → b ≤ high
 high-end low high b e = below high b (λ l. absurd (false≢true (sym (over low high b l) ∙ e))) (λ l. l)

@@ -1,6 +1,5 @@
 -- Any two results that a contract of this crate allows for one byte are equal. Assumes nothing.
 use mathlib.Core.Path.{_≡_, refl, sym, ap, _∙_}
-use mathlib.Core.Option.{some, none}
 use Prim.Native.Nat.{ℕ}
 use native.Mathlib.Omega.{arith}
 use Rattle.marks.proofs.Unique.{OneResult}

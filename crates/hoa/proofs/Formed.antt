@@ -16,11 +16,11 @@ use Rattle.hoa_tokens.specs.Token.{Token}
 use Rattle.hoa_standard.specs.declared.Piece.{Piece}
 use Rattle.hoa_standard.specs.declared.Piece.the-variants as piece-is
 use Rattle.hoa_standard.specs.Standard.{FormulaMeaning, standard, short, mostPairs, noNeeds, eightNeeds, rabinMeaning}
-use Rattle.hoa_standard.specs.Machines.{RabinWants, RabinBehind, StreettWants, StreettBehind, Bare, TruthWants, TruthBehind, Wants, Behind, begin}
+use Rattle.hoa_standard.specs.Machines.{RabinWants, RabinBehind, StreettWants, StreettBehind, Bare, TruthWants, TruthBehind, Wants, Behind}
 use Rattle.hoa_standard.specs.Machines.{rabinOpen, rabinInf, rabinFin, rabinClose, rabinAnd, rabinOr, streettOpen, streettInf, streettFin, streettClose, streettAnd, streettOr}
 use Rattle.hoa_standard.specs.Machines.{bareOpen, bareInf, bareFin, bareClose, bareOr, truthOpen, truthIs, truthClose, wantsOpen, wantsInf, wantsFin, wantsTruth}
 use Rattle.hoa_standard.specs.Machines.{behindClose, behindAnd, behindOr, buchiDone, rabinDone, streettDone, bareDone, someWants, someBehind}
-use Rattle.hoa_standard.specs.Formulas.{Stage, operand, named, bracket, number, after, FormulaState, state, FormulaStep, go, over, wrong, formulaBegin, goWants, goNamed, goAfter}
+use Rattle.hoa_standard.specs.Formulas.{Stage, operand, named, bracket, number, after, FormulaState, FormulaStep, go, over, wrong, formulaBegin, goWants, goNamed, goAfter}
 use Rattle.hoa_standard.specs.Formulas.{needsInf, needsFin, onOperand, onNamed, onBracket, onNumber, onAfter, onStage, truthDone, meaningOf, ends, closes, pieceOf}
 use Rattle.hoa_standard.specs.Formulas.{freeStep, opensPair, tooMany, limited, formulaStep}
 

@@ -21,16 +21,16 @@ use Rattle.hoa_tokens.specs.Stream.{Placed, tokensAt}
 use Rattle.hoa_step.specs.declared.Given.{Given}
 use Rattle.hoa_step.specs.declared.Given.the-variants.{Not, Value}
 use Rattle.hoa_step.specs.Given.{isGiven, notBelow, notAbove}
-use Rattle.hoa_step.specs.Machine.{Step, go, done, wrong, End, doneAt, wrongAt, cut, endBy, run, wantsInt, wantsText}
+use Rattle.hoa_step.specs.Machine.{go, done, wrong, End, doneAt, wrongAt, cut, endBy, run, wantsInt, wantsText}
 use Rattle.hoa_standard.specs.Standard.{FormulaMeaning, standard, short}
 use Rattle.hoa_standard.specs.Formulas as formula
-use Rattle.hoa_standard.specs.Formulas.{FormulaState, FormulaStep, formulaBegin, formulaStep}
+use Rattle.hoa_standard.specs.Formulas.{FormulaStep, formulaBegin, formulaStep}
 use Rattle.hoa_value.specs.declared.Head.{Head}
 use Rattle.hoa_value.specs.declared.Piece.{Piece}
 use Rattle.hoa_value.specs.declared.Piece.the-variants as piece-is
 use Rattle.hoa_value.specs.Head.{mostProps, mostMarks, blank, withStates, withStart, withProps, withMarks, withAccName, withTool, withName}
 use Rattle.hoa_value.specs.Heading.{HeadState, opening, version, items, statesInt, startInt, propsInt, marksInt, startMore, names, inFormula, accName, toolText, toolMore}
-use Rattle.hoa_value.specs.Heading.{nameText, hints, HeadStep, pieceOf, once, onItem, onBody, onPiece, unfinished, onStates, onStart, onStartMore, onProps, nameCame, onName}
+use Rattle.hoa_value.specs.Heading.{nameText, hints, HeadStep, pieceOf, once, onItem, onBody, onPiece, unfinished, onStates, onStart, onStartMore, onProps, nameCame}
 use Rattle.hoa_value.specs.Heading.{behindNames, onNames, onMarks, behindFormula, onFormula, onAccName, onToolMore, onHints, openingHeader, onOpening, versionWord, onVersion, headStep}
 use Rattle.hoa_head.specs.Headed.{headEnd}
 use Rattle.hoa.proofs.Formed.{Formed, Keeps, Meant, formula-kept, formula-begins}

@@ -1,6 +1,6 @@
 -- The law: what is read is never refused by rows 1 to 7, and keeps a job's limits. What the header says (`head-fits`) and what the rows keep (`worth-of`)
 -- is what the rows 1 to 7 ask. Assumes nothing.
-use mathlib.Core.Path.{_≡_, refl, sym, ap, _∙_, subst}
+use mathlib.Core.Path.{_≡_, refl, sym, _∙_, subst}
 use mathlib.Core.Bool.{true, false, false≢true}
 use mathlib.Core.List.{List, map}
 use Prim.Native.Nat.{ℕ, _^_, _≤_, _<_}
@@ -21,12 +21,12 @@ use Rattle.hoa_value.specs.declared.Head.{Head}
 use Rattle.hoa_head.specs.Headed.{headEnd}
 use Rattle.hoa_entry.specs.Rows.{Kept, noRows, entries, rowStep}
 use Rattle.hoa_kept.specs.Sorted.{sorted}
-use Rattle.hoa_rows.specs.Worth.{Fits, AllFit, Agrees, Worth}
+use Rattle.hoa_rows.specs.Worth.{Agrees, Worth}
 use Rattle.hoa_rows.proofs.Worth.{worth-of}
 use Rattle.hoa_rows.proofs.Handing.{sorted-all}
 use Rattle.hoa_rows.proofs.Promises.{fit-sorted, ascends-sorted}
 use Rattle.hoa.specs.Reading.{limitsOf, jobOf, rowsSay, headSays, readHoa}
-use Rattle.hoa.proofs.Heads.{States, Start, Below, Condition, HeadFits, HeadDone, head-fits}
+use Rattle.hoa.proofs.Heads.{States, Below, Condition, HeadDone, head-fits}
 use Rattle.hoa.proofs.Sorting.{fits-at, never-falls}
 
 -- what a job that is read keeps to

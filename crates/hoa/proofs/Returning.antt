@@ -2,10 +2,10 @@
 use mathlib.Core.Path.{_≡_, refl, sym, ap, _∙_, subst}
 use mathlib.Core.Bool.{Bool, true, false, cond}
 use mathlib.Core.List.{List}
-use Prim.Native.Nat.{ℕ, _≤_}
+use Prim.Native.Nat.{ℕ}
 use lib.ListN.{length}
 use Rattle.job_text.specs.Value.{Edge}
-use Rattle.job_text.specs.Job.{Outcome, job, fault}
+use Rattle.job_text.specs.Job.{fault}
 use Rattle.hoa_tokens.specs.Stream.{tokensAt}
 use Rattle.hoa_step.specs.Given.{givenOr}
 use Rattle.hoa_step.specs.Machine.{End, doneAt, wrongAt, cut}

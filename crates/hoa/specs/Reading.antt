@@ -1,7 +1,6 @@
 -- What a text of the Hanoi format says: its tokens from the left, to the first faulty one or to the job (docs/RULES.md, "The Hanoi format"). Assumes nothing.
-use mathlib.Core.List.{List, []}
+use mathlib.Core.List.{List}
 use Prim.Native.Nat.{ℕ}
-use Rattle.job_text.specs.Value.{Edge}
 use Rattle.job_text.specs.Job.{Job, Outcome, job, fault}
 use Rattle.hoa_value.specs.declared.Head.{Head}
 use Rattle.hoa_entry.specs.declared.Limits.{Limits}

@@ -1,13 +1,12 @@
 -- What the functions that read a sig, a row and an edge find makes a stretch of the machine. Assumes nothing.
 use mathlib.Core.Path.{_≡_, refl, sym, ap, _∙_}
-use mathlib.Core.Bool.{Bool, true, false, false≢true, cond, _||_, _&&_}
+use mathlib.Core.Bool.{Bool, true, false, false≢true}
 use mathlib.Core.List.{List, [], _∷_}
-use mathlib.Core.Option.{Option, some, none}
+use mathlib.Core.Option.{some}
 use Prim.Native.Nat.{ℕ, zero, suc, _-_, _≤_, _<_}
 use native.Mathlib.Omega.{arith}
-use borrow.Author.Tests.{lt-ltb, le-ltb, le-leb, lt-leb}
+use borrow.Author.Tests.{lt-ltb, le-leb, lt-leb}
 use denote.Enum.Declared
-use lib.Dec.{ltb, leb}
 use lib.ListN.{length, getD}
 use types.Run.{OneOf, miss}
 use Rattle.job_text.specs.Job.{mostJobStates, mostJobEdges}
@@ -15,13 +14,13 @@ use Rattle.hoa_tokens.specs.declared.Kind.{Kind}
 use Rattle.hoa_tokens.specs.declared.Kind.the-variants as kind-is
 use Rattle.hoa_tokens.specs.declared.Found.{Found}
 use Rattle.hoa_tokens.specs.Token.{Token, int, word, header, str, aname, sign, body, end, abort, finish, bad}
-use Rattle.hoa_tokens.specs.Stream.{Placed, placed, tokensAt, tokenOf, TokenAt}
+use Rattle.hoa_tokens.specs.Stream.{Placed, tokensAt, tokenOf, TokenAt}
 use Rattle.hoa_tokens.proofs.Next.{tokens-next}
 use Rattle.hoa_step.specs.declared.Given.{Given}
 use Rattle.hoa_step.specs.declared.IntRead.{IntRead}
 use Rattle.hoa_step.specs.declared.IntRead.the-variants as int-read
 use Rattle.hoa_step.specs.Given.{notBelow}
-use Rattle.hoa_step.specs.Machine.{Step, End, go, done, wrong, doneAt, wrongAt, run, wantsInt}
+use Rattle.hoa_step.specs.Machine.{Step, go, done, wrong, run, wantsInt}
 use Rattle.hoa_step.specs.Wanted.{Next, intFault, Faulty, IntReads}
 use Rattle.hoa_label.specs.declared.LabelRead.{LabelRead}
 use Rattle.hoa_label.specs.declared.LabelRead.the-variants as label-read
@@ -46,10 +45,10 @@ use Rattle.hoa_entry.specs.declared.edge.EdgeRead.{EdgeRead}
 use Rattle.hoa_entry.specs.declared.edge.EdgeRead.the-variants as edge-read
 use Rattle.hoa_entry.specs.Sig.{sigStep}
 use Rattle.hoa_entry.specs.Rows as spec
-use Rattle.hoa_entry.specs.Rows.{Rows, RowState, RowStep, entries, rowNumber, rowName, rowSig, rowMarks, inLabel, target, targetMore, edgeMarks, withRow, withSig, withEdge}
-use Rattle.hoa_entry.specs.Rows.{came, labelled, onName, onSig, onMore, onEntry, shutLabel, entryOf, rowStep}
-use Rattle.hoa_entry.specs.inner.Reads.{Listed, from, Onward, Behind, EntryHere, isFault, sigStepOf, sigEnd, SigOnward, SigAt, SigStays, LabelledAt, numberEnd, NumberAt, NameAt}
-use Rattle.hoa_entry.specs.inner.Reads.{rowSigEnd, RowSigAt, rowEnd, RowAt, targetEnd, TargetAt, edgeSigEnd, EdgeSigAt, edgeEnd, ToOnward, ToAt, EdgeOnward, EdgeAt}
+use Rattle.hoa_entry.specs.Rows.{Rows, RowStep, entries, rowNumber, rowName, rowSig, rowMarks, inLabel, target, targetMore, edgeMarks, withRow, withSig, withEdge}
+use Rattle.hoa_entry.specs.Rows.{came, labelled, onName, onSig, onMore, onEntry, entryOf, rowStep}
+use Rattle.hoa_entry.specs.inner.Reads.{Listed, from, Onward, Behind, EntryHere, sigStepOf, sigEnd, SigOnward, SigAt, SigStays, LabelledAt, NumberAt, NameAt}
+use Rattle.hoa_entry.specs.inner.Reads.{rowSigEnd, RowSigAt, RowAt, TargetAt, edgeSigEnd, EdgeSigAt, ToOnward, ToAt, EdgeOnward, EdgeAt}
 use Rattle.hoa_entry.proofs.Signs.{signs-take}
 use Rattle.hoa_entry.proofs.Steps.{moved, step-goes, step-ends, step-faults, step-same, afterSig, row-sig, edge-sig, afterLabel, in-label}
 

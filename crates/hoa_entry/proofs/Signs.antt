@@ -1,9 +1,9 @@
 -- A mark of one byte takes one byte: the place of the `]` that shuts a label is the byte before the one behind it. Assumes nothing.
-use mathlib.Core.Path.{_≡_, refl, sym, ap, _∙_}
-use mathlib.Core.Bool.{Bool, true, false, false≢true, cond, _&&_}
+use mathlib.Core.Path.{_≡_, refl, sym, _∙_}
+use mathlib.Core.Bool.{Bool, true, false, false≢true}
 use mathlib.Core.List.{List, [], _∷_}
 use mathlib.Core.Option.{Option, some, none}
-use Prim.Native.Nat.{ℕ, zero, suc, _+_, _-_}
+use Prim.Native.Nat.{ℕ, zero, suc, _-_}
 use native.Mathlib.Omega.{arith}
 use lib.Dec.{eqb, ltb}
 use lib.ListN.{length, take, drop, getD}
@@ -11,7 +11,7 @@ use Rattle.hoa_tokens.specs.declared.Sign.{Sign}
 use Rattle.hoa_tokens.specs.Bytes.{bytes, isDigit, isLetter, isName, run}
 use Rattle.hoa_tokens.specs.Token.{Token, int, word, header, str, aname, sign, body, end, abort, finish, bad, Taken}
 use Rattle.hoa_tokens.specs.Token.{isInt, digits, number, named, quoted, closed, at, begins, fixed, signOf, single, front}
-use Rattle.hoa_tokens.specs.Stream.{Gap, gap, unclosed, lost, gapOf, Placed, placed, firstOf, first, unlessFinished, tokensAt, some as upTo}
+use Rattle.hoa_tokens.specs.Stream.{Gap, gap, unclosed, lost, gapOf, Placed, firstOf, first, unlessFinished, tokensAt, some as upTo}
 use Rattle.hoa_tokens.proofs.Sizes.{byTest}
 use Rattle.hoa_label.specs.declared.Wanted.{Wanted}
 use Rattle.hoa_label.specs.declared.Wanted.the-variants as wanted-is

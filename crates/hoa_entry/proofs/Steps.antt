@@ -1,15 +1,13 @@
 -- The machine's steps at the token that is found; sigs and labels inside the rows. Assumes nothing.
 use mathlib.Core.Path.{_≡_, refl, sym, ap, _∙_}
-use mathlib.Core.Bool.{Bool, true, false, false≢true, cond, _||_, _&&_}
+use mathlib.Core.Bool.{true, false, false≢true}
 use mathlib.Core.List.{List, [], _∷_}
-use Prim.Native.Nat.{ℕ, zero, suc, _-_, _≤_, _<_}
+use Prim.Native.Nat.{ℕ, _-_}
 use native.Mathlib.Omega.{arith}
-use lib.Dec.{ltb, leb}
-use lib.ListN.{length}
 use Rattle.hoa_tokens.specs.declared.Kind.{Kind}
 use Rattle.hoa_tokens.specs.declared.Kind.the-variants as kind-is
 use Rattle.hoa_tokens.specs.declared.Found.{Found}
-use Rattle.hoa_tokens.specs.Token.{Token, int, word, header, str, aname, sign, body, end, abort, finish, bad}
+use Rattle.hoa_tokens.specs.Token.{Token}
 use Rattle.hoa_tokens.specs.Stream.{Placed, placed, tokensAt, tokenOf, unlessFinished, TokenAt}
 use Rattle.hoa_tokens.proofs.Next.{tokens-next, token-takes}
 use Rattle.hoa_step.specs.Machine.{Step, End, go, done, wrong, doneAt, wrongAt, cut, endBy, run}
@@ -21,9 +19,9 @@ use Rattle.hoa_entry.specs.declared.Entry.{Entry}
 use Rattle.hoa_entry.specs.declared.Entry.the-variants as entry-is
 use Rattle.hoa_entry.specs.Sig.{sigStep}
 use Rattle.hoa_entry.specs.Rows as spec
-use Rattle.hoa_entry.specs.Rows.{Rows, RowState, RowStep, entries, rowMarks, edgeMarks, inLabel}
+use Rattle.hoa_entry.specs.Rows.{Rows, entries, rowMarks, edgeMarks, inLabel}
 use Rattle.hoa_entry.specs.Rows.{withSig, withEdge, onRowMarks, onEdgeMarks, onLabel, shutLabel, entryOf, rowStep}
-use Rattle.hoa_entry.specs.inner.Reads.{Onward, Behind, EntryHere, isFault}
+use Rattle.hoa_entry.specs.inner.Reads.{EntryHere, isFault}
 use Rattle.hoa_entry.proofs.Signs.{AllTake, isShut, shut-sign}
 
 -- ---- the token that is found

@@ -1,11 +1,9 @@
 -- What a token is by its kind; `other-..` for those that a `match` leaves to `_`. Assumes nothing.
-use mathlib.Core.Bool.{Bool, true, false, cond}
 use mathlib.Core.List.{List, [], _∷_}
-use mathlib.Core.Path.{_≡_, refl, sym, ap, _∙_}
+use mathlib.Core.Path.{_≡_, refl}
 use Prim.Native.Nat.{ℕ, _<_, _≤_}
 use borrow.Author.Tests.{lt-ltb, le-ltb}
 use denote.Enum.Declared
-use lib.Dec.{ltb}
 use types.Run.{OneOf, miss}
 use Rattle.hoa_tokens.proofs.Header as header-type
 use Rattle.hoa_tokens.proofs.Sign as sign-type

@@ -3,10 +3,9 @@
 use mathlib.Core.Bool.{Bool, true, false, cond, _&&_, _||_}
 use mathlib.Core.List.{List, [], _∷_}
 use mathlib.Core.Path.{_≡_, refl, sym, ap, _∙_}
-use mathlib.Core.Logic.{inl, inr}
 use Prim.Native.Nat.{ℕ, zero, suc, _%_, _/_, _≤_, _<_}
 use native.Mathlib.Omega.{arith}
-use lib.Dec.{eqb, ltb}
+use lib.Dec.{ltb}
 use borrow.Author.Tests.{lt-ltb, le-ltb, eq-eqb}
 use Rattle.hoa_tokens.specs.declared.Word.{Word}
 use Rattle.hoa_tokens.specs.declared.Word.the-variants as word-is
@@ -15,16 +14,16 @@ use Rattle.table.specs.declared.Acceptance.the-variants as acceptance
 use Rattle.hoa_standard.specs.declared.Piece.{Piece}
 use Rattle.hoa_standard.specs.declared.Piece.the-variants as piece-is
 use Rattle.hoa_standard.specs.Standard.{left, right, both, either, atom, Infs, Infop, infsEnd, infopEnd, infsText, infopText, infsCount, infopCount, FormulaMeaning}
-use Rattle.hoa_standard.specs.Standard.{standard, short}
+use Rattle.hoa_standard.specs.Standard.{standard}
 use Rattle.hoa_standard.specs.Standard.{Pair, Phead, pairEnd, pheadEnd, pairText, pheadText, pairNeed, pheadNeed, Rabin, Rabop, rabinEnd, rabopEnd, rabinText, rabopText}
 use Rattle.hoa_standard.specs.Standard.{rabinNeeds, rabopNeeds}
 use Rattle.hoa_standard.specs.Standard.{Single, Spair, Streett, Strop, streettEnd, stropEnd, singleText, spairText, streettText, stropText, Truth, truthText, truthMeaning}
-use Rattle.hoa_standard.specs.Standard.{Std, stdText, IsStd, stdMeaning, rabinMeaning, noNeeds}
+use Rattle.hoa_standard.specs.Standard.{Std, stdText, IsStd, stdMeaning, noNeeds}
 use Rattle.hoa_standard.specs.Machines.{Buchi, RabinWants, RabinBehind, StreettWants, StreettBehind, Bare, TruthWants, TruthBehind, Wants, Behind, begin}
 use Rattle.hoa_standard.specs.Machines.{wantsOpen, wantsInf, wantsFin, wantsTruth, behindClose, behindAnd, behindOr, someWants, someBehind}
 use Rattle.hoa_standard.specs.Machines.{rabinOpen, rabinInf, rabinClose, rabinOr, buchiLive, rabinWanting, rabinLive, streettWanting, streettLive, bareLive, truthWanting}
-use Rattle.hoa_standard.specs.Machines.{truthLive, buchiDone, rabinDone, streettDone, bareDone}
-use Rattle.hoa_standard.specs.Formulas.{FormulaState, FormulaStep, go, wrong, state, operand, named, bracket, number, after, wordPiece, pieceOf, onOperand, needsInf}
+use Rattle.hoa_standard.specs.Machines.{truthLive, rabinDone, streettDone}
+use Rattle.hoa_standard.specs.Formulas.{FormulaState, go, wrong, state, operand, named, number, after, wordPiece, pieceOf, onOperand, needsInf}
 use Rattle.hoa_standard.specs.Formulas.{needsFin, byDone, truthDone, meaningOf, freeStep, formulaBegin}
 use Rattle.hoa_formula.specs.Walking.{andOn, freeWalk, Stands}
 

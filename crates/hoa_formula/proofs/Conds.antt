@@ -1,14 +1,14 @@
 -- Every standard formula is a condition of section 2 (`std-is-cond`): one tree for each tree. Assumes nothing.
 use mathlib.Core.Bool.{false}
-use mathlib.Core.List.{List, [], _∷_}
-use mathlib.Core.Path.{_≡_, refl, sym, ap, _∙_}
+use mathlib.Core.List.{List}
+use mathlib.Core.Path.{_≡_, refl, ap, _∙_}
 use Prim.Native.Nat.{ℕ, suc}
 use Rattle.hoa_tokens.specs.declared.Word.the-variants as word-is
 use Rattle.hoa_tokens.specs.Token.{Token}
 use Rattle.hoa_formula.specs.Cond as section2
 use Rattle.hoa_formula.specs.Cond.{Cond, Cconj, Catom, condText, cconjText, catomText}
-use Rattle.hoa_standard.specs.Standard.{left, right, both, either, Infs, Infop, infsEnd, infopEnd, infsText, infopText, Pair, Phead, pairEnd, pheadEnd, pairText, pheadText}
-use Rattle.hoa_standard.specs.Standard.{Rabin, Rabop, rabinEnd, rabopEnd, rabinText, rabopText, Single, Spair, Streett, Strop, streettEnd, stropEnd, singleText, spairText}
+use Rattle.hoa_standard.specs.Standard.{left, right, both, either, Infs, Infop, infopEnd, infsText, infopText, Pair, Phead, pheadEnd, pairText, pheadText}
+use Rattle.hoa_standard.specs.Standard.{Rabin, Rabop, rabopEnd, rabinText, rabopText, Single, Spair, Streett, Strop, stropEnd, singleText, spairText}
 use Rattle.hoa_standard.specs.Standard.{streettText, stropText}
 use Rattle.hoa_standard.specs.Standard.{Truth, truthText, Std, stdText}
 

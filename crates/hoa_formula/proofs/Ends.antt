@@ -1,5 +1,5 @@
 -- What the reader's smaller functions ask: the cases that a match leaves over, and tests. Assumes nothing.
-use mathlib.Core.List.{List, [], _∷_}
+use mathlib.Core.List.{[], _∷_}
 use mathlib.Core.Path.{_≡_, refl}
 use Prim.Native.Nat.{ℕ, zero, suc}
 use denote.Enum.Declared

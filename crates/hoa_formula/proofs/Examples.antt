@@ -1,7 +1,7 @@
 -- The rules' own examples of formulas (docs/RULES.md, "The Hanoi format"), computed from the definitions. Assumes nothing.
 use mathlib.Core.Path.{_≡_, refl}
 use mathlib.Core.List.{List, [], _∷_}
-use mathlib.Core.Option.{Option, some, none}
+use mathlib.Core.Option.{some}
 use Prim.Native.Nat.{ℕ}
 use Rattle.table.specs.declared.Acceptance.the-variants as acceptance
 use Rattle.hoa_tokens.specs.Bytes.{bytes, same, isDigit, isCapital, isLetter, isName, isBlank, run}

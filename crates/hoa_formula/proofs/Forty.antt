@@ -14,9 +14,9 @@ use Rattle.hoa_formula.specs.Cond as section2
 use Rattle.hoa_formula.specs.Cond.{Cond, Cconj, Catom, condText, cconjText, catomText, nameWord, perhapsNot}
 use Rattle.hoa_standard.specs.Standard.{FormulaMeaning, left, right, both, either}
 use Rattle.hoa_standard.specs.Machines.{Wants, Behind, wantsOpen, wantsInf, wantsFin, wantsTruth, behindClose, behindAnd, behindOr, someWants, someBehind}
-use Rattle.hoa_standard.specs.Formulas.{FormulaState, FormulaStep, go, over, wrong, state, Stage, operand, named, bracket, number, after, pieceOf, needsInf, needsFin}
+use Rattle.hoa_standard.specs.Formulas.{FormulaState, go, over, wrong, state, Stage, operand, named, bracket, number, after, pieceOf, needsInf, needsFin}
 use Rattle.hoa_standard.specs.Formulas.{meaningOf}
-use Rattle.hoa_standard.specs.Formulas.{ends, closes, onOperand, onNamed, onBracket, onNumber, onAfter, onStage, freeStep, formulaBegin}
+use Rattle.hoa_standard.specs.Formulas.{closes, onOperand, onNamed, onBracket, onNumber, onAfter, onStage, freeStep, formulaBegin}
 use Rattle.hoa_formula.specs.Walking.{freeWalk}
 use Rattle.hoa_formula.proofs.Rests.{Went, opens, infs, fins, truths, brackets, numbers, shuts, closed, ands, ors, went, walked, go-is}
 

@@ -1,8 +1,8 @@
 -- The reader's loop (`Reading`): what it has read so far leaves the rest of the run as it is. Assumes nothing.
 use mathlib.Core.Bool.{Bool, true, false, cond}
-use mathlib.Core.List.{List, [], _∷_, _++_, reverse}
+use mathlib.Core.List.{List, [], reverse}
 use mathlib.Core.Path.{_≡_, refl, sym, ap, _∙_}
-use Prim.Native.Nat.{ℕ, zero, suc, _≤_, _<_, _/_, _%_, _-_}
+use Prim.Native.Nat.{ℕ, zero, suc, _≤_, _<_, _%_, _-_}
 use native.Mathlib.Omega.{arith}
 use lib.Dec.{eqb, ltb}
 use lib.ListN.{length, getD, replicate, length-append, length-replicate, length-reverse}
@@ -28,17 +28,17 @@ use Rattle.hoa_formula.specs.declared.Complete.{Complete}
 use Rattle.hoa_formula.specs.declared.Complete.the-variants as complete-is
 use Rattle.hoa_formula.specs.declared.FormulaFound.the-variants as found-is
 use Rattle.hoa_formula.specs.declared.FormulaRead.{FormulaRead}
-use Rattle.hoa_standard.specs.Standard.{FormulaMeaning, short, mostPairs, noNeeds, eightNeeds, rabinMeaning}
+use Rattle.hoa_standard.specs.Standard.{FormulaMeaning, short, noNeeds, eightNeeds}
 use Rattle.hoa_standard.specs.Machines.{Buchi, RabinBehind, StreettBehind, Bare, TruthBehind}
-use Rattle.hoa_standard.specs.Formulas.{byDone, FormulaState, FormulaStep, FormulaEnd, overAt, wrongAt, onward, pieceOf, meaningOf, formulaStep, formulaBegin, formulaRun}
+use Rattle.hoa_standard.specs.Formulas.{byDone, FormulaStep, overAt, onward, pieceOf, meaningOf, formulaStep, formulaBegin, formulaRun}
 use Rattle.hoa_formula.specs.Reading.{foundSays, foundPlace, foundNeeds, FormulaAt}
-use Rattle.hoa_standard.specs.inner.Sides.{behind, aheadWithin, pastWithin, pastIs, ifEven, ifTwo, firstStreett, bracketRoom}
+use Rattle.hoa_standard.specs.inner.Sides.{behind, aheadWithin, pastWithin, pastIs, bracketRoom}
 use Rattle.hoa_turn.specs.inner.Turns as turns
 use Rattle.hoa_turn.specs.inner.Turns.{stageWithin, stateOf, turnOf, formula, Within, turnAt}
 use Rattle.hoa_turn.specs.inner.Counts.{Counts, Bounded, tally, countedTo}
-use Rattle.hoa_formula.specs.inner.Ends.{kindPiece, ifNone, completeTo, completeMeaning, found, completeRead, pastRead, overRead}
+use Rattle.hoa_formula.specs.inner.Ends.{kindPiece, completeTo, completeMeaning, found, completeRead, pastRead, overRead}
 use Rattle.hoa_turn.proofs.Steps.{needsNext, meaningAt, turn-is-step}
-use Rattle.hoa_turn.proofs.Keeping.{Keeps, keeps}
+use Rattle.hoa_turn.proofs.Keeping.{keeps}
 
 -- ---- tokens
 

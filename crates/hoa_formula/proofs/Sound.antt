@@ -1,23 +1,21 @@
 -- What stands complete is a formula of std(c) with that meaning (`sound`): for each kind, what its machine's states still want (`..Wants`, `..Behind`).
 -- Assumes nothing.
 pub mod Late
-use mathlib.Core.Bool.{Bool, true, false, cond, _&&_, _||_}
+use mathlib.Core.Bool.{Bool, true, false, cond, _||_}
 use mathlib.Core.List.{List, [], _∷_}
 use mathlib.Core.Path.{_≡_, refl, sym, ap, subst, _∙_}
-use Prim.Native.Nat.{ℕ, zero, suc, _%_, _/_, _≤_, _<_}
+use Prim.Native.Nat.{ℕ, zero, suc, _%_, _≤_}
 use native.Mathlib.Omega.{arith}
 use lib.Dec.{eqb, ltb}
 use borrow.Author.Tests.{ltb-false, eqb-true}
-use Rattle.table.specs.declared.Acceptance.{Acceptance}
-use Rattle.hoa_tokens.specs.declared.Word.{Word}
 use Rattle.hoa_tokens.specs.declared.Word.the-variants as word-is
 use Rattle.hoa_tokens.specs.Token.{Token, word}
 use Rattle.hoa_standard.specs.declared.Piece.{Piece}
 use Rattle.hoa_standard.specs.Standard.{left, right, both, either, atom, Infs, Infop, infsEnd, infopEnd, infsText, infopText, FormulaMeaning, standard, short}
 use Rattle.hoa_standard.specs.Standard.{Pair, Phead, pairEnd, pheadEnd, pairText, pheadText, Rabin, Rabop, rabinEnd, rabopEnd, rabinText, rabopText}
-use Rattle.hoa_standard.specs.Standard.{Single, Spair, Streett, Strop, streettEnd, stropEnd, singleText, spairText, streettText, stropText, Truth, truthText}
+use Rattle.hoa_standard.specs.Standard.{Single, Streett, Strop, streettEnd, stropEnd, singleText, spairText, streettText, stropText, Truth, truthText}
 use Rattle.hoa_standard.specs.Standard.{Std, stdText, IsStd, stdMeaning}
-use Rattle.hoa_standard.specs.Machines.{Buchi, RabinWants, RabinBehind, StreettWants, StreettBehind, Bare, TruthWants, TruthBehind, Wants, Behind, begin}
+use Rattle.hoa_standard.specs.Machines.{Buchi, RabinWants, RabinBehind, StreettWants, StreettBehind, Bare, TruthWants, TruthBehind, Behind, begin}
 use Rattle.hoa_standard.specs.Machines.{buchiOpen, buchiClose, rabinOpen, rabinInf, rabinFin, rabinClose, rabinAnd, rabinOr, streettOpen, streettInf, streettFin}
 use Rattle.hoa_standard.specs.Machines.{streettClose, streettAnd, streettOr}
 use Rattle.hoa_standard.specs.Machines.{bareOpen, bareInf, bareFin, bareClose, bareOr, truthOpen, truthIs, truthClose, buchiDone, rabinDone, streettDone, bareDone}

@@ -1,19 +1,19 @@
 -- What is read is a text of the subset, within the limits, that says the job (`accepted`). Assumes nothing.
-use mathlib.Core.Bool.{Bool, true, false, false≢true}
-use mathlib.Core.List.{List, [], _∷_, _++_}
+use mathlib.Core.Bool.{true, false, false≢true}
+use mathlib.Core.List.{List, [], _∷_}
 use mathlib.Core.Path.{_≡_, refl, sym, ap, subst, _∙_}
-use Prim.Native.Nat.{ℕ, zero, suc, _+_, _≤_, _<_, zero-le}
+use Prim.Native.Nat.{ℕ, suc, _≤_, _<_, zero-le}
 use native.Mathlib.Omega.{arith}
 use borrow.Author.Tests.{ltb-false, leb-false}
-use lib.Dec.{ltb, leb}
+use lib.Dec.{leb}
 use lib.ListN.{length}
 use Rattle.table.specs.declared.Acceptance.{Acceptance}
 use Rattle.job_text.specs.Value.{Edge}
 use Rattle.job_text.specs.Job.{Job, Outcome, job, fault, mostJobStates, mostJobEdges}
 use Rattle.hoa_tokens.specs.declared.Word.the-variants as word-is
 use Rattle.hoa_tokens.specs.declared.Header.the-variants as header-is
-use Rattle.hoa_tokens.specs.Token.{Token, word, header, body, end, finish}
-use Rattle.hoa_tokens.specs.Stream.{Placed, some, tokensAt}
+use Rattle.hoa_tokens.specs.Token.{Token, word, header, body}
+use Rattle.hoa_tokens.specs.Stream.{Placed, tokensAt}
 use Rattle.hoa_step.specs.declared.Given.{Given}
 use Rattle.hoa_step.specs.declared.Given.the-variants.{Not, Value}
 use Rattle.hoa_step.specs.Given.{isGiven, givenOr, notBelow}
@@ -26,17 +26,17 @@ use Rattle.hoa_entry.specs.declared.Limits.{Limits}
 use Rattle.hoa_entry.specs.Rows.{Rows, Kept, noRows, entries, wrongEnd, rowStep}
 use Rattle.hoa_kept.specs.Sorted.{sorted}
 use Rattle.hoa.specs.Reading.{limitsOf, jobOf, rowsSay, headSays, readHoa}
-use Rattle.hoa_grammar.specs.Doc.{Conj, one, more, Item, Row, Doc, itemsText, rowsText, docText}
-use Rattle.hoa_grammar.specs.Subset.{Each, eachNone, eachMore, Differ, given, ofStates, ofStart, ofProps, ofAcceptance, Formula, StandardAs, propsOf, statesOf, RowsSay, numbersOf, Says, Limited}
-use Rattle.hoa_grammar.specs.Walk.{over, walk, tokensOf}
+use Rattle.hoa_grammar.specs.Doc.{Conj, one, more, Item, Row, Doc, itemsText, docText}
+use Rattle.hoa_grammar.specs.Subset.{Each, eachNone, eachMore, given, ofStates, ofStart, ofProps, ofAcceptance, Formula, StandardAs, propsOf, statesOf, RowsSay, numbersOf, Says, Limited}
+use Rattle.hoa_grammar.specs.Walk.{over, tokensOf}
 use Rattle.hoa_grammar.specs.Exact.{ReadAs}
-use Rattle.hoa_grammar.proofs.RowTakes.{TakesRow, RowLimit, TakesRows, takesNoRow, takesRowMore, RowsLimit, edges-seen}
+use Rattle.hoa_grammar.proofs.RowTakes.{TakesRows, takesNoRow, takesRowMore, RowsLimit, edges-seen}
 use Rattle.hoa_grammar.proofs.Takes.{TakesAll}
 use Rattle.hoa_grammar.proofs.Heads.{AllLimits}
 use Rattle.hoa_grammar.proofs.HeadSound as heads
 use Rattle.hoa_grammar.proofs.FormulaTexts.{formula-sound}
 use Rattle.hoa_grammar.proofs.RowSound as bodies
-use Rattle.hoa_grammar.proofs.Ahead.{Goal, goalOf, Settles, nowhere, ahead, before, StartIs, Agree, GoalLimited, takes-ahead, takes-agree, takes-limited}
+use Rattle.hoa_grammar.proofs.Ahead.{goalOf, Settles, nowhere, ahead, before, StartIs, Agree, GoalLimited, takes-ahead, takes-agree, takes-limited}
 use Rattle.hoa_grammar.proofs.RowsAhead.{RowsSaid, rows-say, flat-rows, few-rows}
 use Rattle.hoa_grammar.proofs.Runs.{run-walk, run-leaves, Behind, goes-on, none-left}
 use Rattle.hoa_grammar.proofs.Crowd.{crowd}
@@ -177,9 +177,6 @@ value-is e = ap (givenOr 0) e
 
 no-both : {A : Type 0} (g : Given) (n : ℕ) → g ≡ Not → g ≡ Value n → A
 no-both g n a b = no-given (ap isGiven (sym a ∙ b))
-
-count-not : (g f : Given) (last : Rows) (k : ℕ) → Counts g f last → length (last .seen) ≡ k → g ≡ Not → length (last .seen) ≡ k
-count-not g f last k c e q = e
 
 count-value : (g f : Given) (last : Rows) → Counts g f last → (m : ℕ) → g ≡ Value m → length (last .seen) ≡ m
 count-value g f last (counted q _) m e = no-both g m q e

@@ -2,12 +2,10 @@
 -- exactly if this holds (`ahead-takes`, `takes-ahead`). Assumes nothing.
 use mathlib.Core.Bool.{Bool, true, false, false≢true}
 use mathlib.Core.List.{List, [], _∷_}
-use mathlib.Core.Option.{Option, some, none}
 use mathlib.Core.Path.{_≡_, refl, sym, ap, subst, _∙_}
-use Prim.Native.Nat.{ℕ, zero, suc, _+_, _≤_, _<_, zero-le}
+use Prim.Native.Nat.{ℕ, suc, _+_, _≤_, _<_}
 use native.Mathlib.Omega.{arith}
 use borrow.Author.Tests.{lt-leb, leb-false}
-use lib.Dec.{leb}
 use lib.ListN.{length}
 use Rattle.table.specs.declared.Acceptance.{Acceptance}
 use Rattle.hoa_tokens.specs.declared.Word.{Word}
@@ -18,9 +16,9 @@ use Rattle.hoa_step.specs.Given.{isGiven, givenOr, notBelow, notAbove}
 use Rattle.job_text.specs.Job.{mostJobStates}
 use Rattle.hoa_standard.specs.Standard.{mostPairs}
 use Rattle.hoa_value.specs.declared.Head.{Head}
-use Rattle.hoa_value.specs.Head.{mostProps, mostMarks, blank, withStates, withStart, withProps, withMarks, withAccName, withTool, withName}
-use Rattle.hoa_grammar.specs.Doc.{Conj, one, more, Hint, Extra, Item, states, start, props, alias, acceptance, accName, tool, name, properties, capital, lower}
-use Rattle.hoa_grammar.specs.Subset.{Each, eachNone, eachMore, Differ, given, put, ofStates, ofStart, ofProps, ofAcceptance, ofAccName, ofTool, ofName, Formula, ItemFits, StandardAs, pairsIn}
+use Rattle.hoa_value.specs.Head.{mostProps, mostMarks, withStates, withStart, withProps, withMarks, withAccName, withTool, withName}
+use Rattle.hoa_grammar.specs.Doc.{Conj, one, more, Extra, Item, states, start, props, alias, acceptance, accName, tool, name, properties, capital, lower}
+use Rattle.hoa_grammar.specs.Subset.{Each, eachNone, eachMore, given, ofStates, ofStart, ofProps, ofAcceptance, ofAccName, ofTool, ofName, ItemFits, StandardAs, pairsIn}
 use Rattle.hoa_grammar.proofs.Takes.{
   formula,
   Takes,

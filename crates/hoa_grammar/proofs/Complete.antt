@@ -1,14 +1,12 @@
 -- Every text of the subset within the limits is read, as what it says (`read-all`). Assumes nothing.
-use mathlib.Core.Bool.{Bool, true, false, false≢true}
-use mathlib.Core.List.{List, [], _∷_, _++_}
+use mathlib.Core.Bool.{false}
+use mathlib.Core.List.{List, [], _∷_}
 use mathlib.Core.Path.{_≡_, refl, sym, ap, subst, _∙_}
-use Prim.Native.Nat.{ℕ, zero, suc, _+_, _≤_, _<_, zero-le}
+use Prim.Native.Nat.{ℕ, _≤_, _<_, zero-le}
 use native.Mathlib.Omega.{arith}
 use borrow.Author.Tests.{le-ltb, lt-leb}
-use lib.Dec.{ltb, leb}
 use lib.ListN.{length}
-use Rattle.job_text.specs.Value.{Edge}
-use Rattle.job_text.specs.Job.{Job, Outcome, job, fault, mostJobStates, mostJobEdges}
+use Rattle.job_text.specs.Job.{Job, job, mostJobStates}
 use Rattle.hoa_tokens.specs.declared.Word.{Word}
 use Rattle.hoa_tokens.specs.declared.Word.the-variants as word-is
 use Rattle.hoa_tokens.specs.declared.Header.the-variants as header-is
@@ -17,25 +15,25 @@ use Rattle.hoa_tokens.specs.Stream.{Placed, tokensAt}
 use Rattle.hoa_step.specs.declared.Given.{Given}
 use Rattle.hoa_step.specs.declared.Given.the-variants.{Not, Value}
 use Rattle.hoa_step.specs.Given.{isGiven, givenOr, notBelow}
-use Rattle.hoa_step.specs.Machine.{End, doneAt, wrongAt, cut, run}
+use Rattle.hoa_step.specs.Machine.{doneAt, run}
 use Rattle.hoa_value.specs.declared.Head.{Head}
-use Rattle.hoa_value.specs.Head.{mostProps, mostMarks, blank}
-use Rattle.hoa_value.specs.Heading.{HeadState, opening, items, headStep, onOpening, onVersion, pieceOf, onBody}
+use Rattle.hoa_value.specs.Head.{mostProps, blank}
+use Rattle.hoa_value.specs.Heading.{opening, items, headStep, onOpening, onVersion, pieceOf}
 use Rattle.hoa_head.specs.Headed.{headEnd}
 use Rattle.hoa_entry.specs.declared.Limits.{Limits}
-use Rattle.hoa_entry.specs.Rows.{Rows, Kept, noRows, entries, closing, wrongEnd, rowStep, entryOf, onClosing}
+use Rattle.hoa_entry.specs.Rows.{Rows, Kept, noRows, entries, wrongEnd, rowStep, entryOf, onClosing}
 use Rattle.hoa_kept.specs.Sorted.{sorted}
-use Rattle.hoa.specs.Reading.{limitsOf, jobOf, rowsSay, headSays, readHoa}
-use Rattle.hoa_grammar.specs.Doc.{Conj, one, Item, Row, Doc, itemsText, rowsText, docText}
-use Rattle.hoa_grammar.specs.Subset.{Each, eachNone, eachMore, Differ, given, ofStates, ofStart, ofProps, ofAcceptance, Formula, StandardAs, propsOf, statesOf, RowsSay, numbersOf, Says, Limited}
-use Rattle.hoa_grammar.specs.Walk.{over, walk, walkBy, tokensOf}
+use Rattle.hoa.specs.Reading.{rowsSay, headSays, readHoa}
+use Rattle.hoa_grammar.specs.Doc.{one, Doc, itemsText, rowsText, docText}
+use Rattle.hoa_grammar.specs.Subset.{Each, eachNone, eachMore, given, ofStates, ofProps, propsOf, statesOf, RowsSay, numbersOf, Says, Limited}
+use Rattle.hoa_grammar.specs.Walk.{over, walk}
 use Rattle.hoa_grammar.specs.Exact.{ReadAs}
 use Rattle.hoa_grammar.proofs.Onward.{Onward, same, limit}
-use Rattle.hoa_grammar.proofs.Heads.{AllLimits, items-walk}
+use Rattle.hoa_grammar.proofs.Heads.{items-walk}
 use Rattle.hoa_grammar.proofs.RowWalks.{rows-walk}
-use Rattle.hoa_grammar.proofs.Ahead.{Goal, goalOf, Settles, nowhere, ahead, before, StartIs, Agree, Ahead, GoalLimited, Taken, ahead-takes}
+use Rattle.hoa_grammar.proofs.Ahead.{Goal, goalOf, Settles, nowhere, ahead, Agree, Ahead, GoalLimited, Taken, ahead-takes}
 use Rattle.hoa_grammar.proofs.RowsAhead.{RowsTaken, rows-take}
-use Rattle.hoa_grammar.proofs.Runs.{Ran, walk-run}
+use Rattle.hoa_grammar.proofs.Runs.{walk-run}
 
 -- a stretch within its limits leads on
 within : {S D L : Type 0} {w w' : _} → L → Onward {S = S} {D = D} L w w' → w ≡ w'

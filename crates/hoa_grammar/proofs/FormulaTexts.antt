@@ -5,7 +5,7 @@ use mathlib.Core.List.{List, [], _∷_, _++_}
 use mathlib.Core.Path.{_≡_, refl, sym, ap, subst, _∙_}
 use Prim.Native.Nat.{ℕ, zero, suc, _+_, _/_, _≤_, _<_, zero-le}
 use native.Mathlib.Omega.{arith}
-use borrow.Author.Tests.{leb-true, leb-false}
+use borrow.Author.Tests.{leb-true}
 use lib.Dec.{leb, ltb}
 use lib.ListN.{length}
 use Rattle.table.specs.declared.Acceptance.{Acceptance}
@@ -60,7 +60,7 @@ use Rattle.hoa_standard.specs.Standard.{
   right,
   atom,
 }
-use Rattle.hoa_standard.specs.Machines.{RabinWants, RabinBehind, StreettWants, Bare, TruthBehind, Wants, Behind, begin, buchiDone, rabinDone, streettDone, bareDone}
+use Rattle.hoa_standard.specs.Machines.{RabinWants, RabinBehind, StreettWants, Bare, TruthBehind, Wants, Behind, buchiDone, rabinDone, streettDone, bareDone}
 use Rattle.hoa_standard.specs.Formulas as formula
 use Rattle.hoa_standard.specs.Formulas.{FormulaState, FormulaStep, Stage, operand, named, bracket, number, after, formulaBegin, freeStep, formulaStep, tooMany, limited, opensPair, onStage, meaningOf, byDone}
 use Rattle.hoa_formula.specs.Walking.{freeWalk, andOn, Stands}
@@ -71,12 +71,12 @@ use Rattle.hoa_formula.proofs.Conds.{std-cond}
 use Rattle.hoa_standard.specs.declared.Piece.the-variants as piece-is
 use Rattle.hoa_value.specs.declared.Head.{Head}
 use Rattle.hoa_value.specs.Head.{withMarks}
-use Rattle.hoa_value.specs.Heading.{HeadState, items, inFormula, headStep, onFormula}
+use Rattle.hoa_value.specs.Heading.{items, inFormula, headStep, onFormula}
 use Rattle.hoa_grammar.specs.Subset.{StandardAs, pairsIn}
-use Rattle.hoa_grammar.specs.Walk.{Walk, walk, walkBy}
+use Rattle.hoa_grammar.specs.Walk.{walk, walkBy}
 use Rattle.hoa_grammar.proofs.Onward.{Onward, same, limit, onward-then, onward-from}
 use Rattle.hoa_grammar.proofs.Opens.{Opens, opensItem, opensBody, HeadWalk, same-step}
-use Rattle.hoa_grammar.proofs.Leads.{Leads, ends, steps, FormulaRead, FormulaSound}
+use Rattle.hoa_grammar.proofs.Leads.{Leads, ends, steps, FormulaSound}
 use Rattle.hoa_grammar.proofs.Pairs.{Wherever, InfAtMost, BareInf, BesideWants, BesideStage, OnlyWants, OnlyBehind, NineWants, NineBehind, NineStage, Beside, Nine, Eight, Few, step-beside, step-nine, step-few}
 
 -- ---- what follows a formula's text

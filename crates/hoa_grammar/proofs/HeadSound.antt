@@ -6,24 +6,22 @@ use mathlib.Core.Option.{Option, some, none}
 use mathlib.Core.Path.{_≡_, refl, sym, ap, subst, _∙_}
 use Prim.Native.Nat.{ℕ, zero, suc, _+_, _≤_, _<_, zero-le}
 use native.Mathlib.Omega.{arith}
-use borrow.Author.Tests.{ltb-true, ltb-false, leb-true, leb-false, eqb-false, not-false}
+use borrow.Author.Tests.{ltb-false, leb-false, eqb-false, not-false}
 use lib.Dec.{eqb, ltb, leb}
 use lib.ListN.{length}
 use Rattle.hoa_tokens.specs.declared.Word.{Word}
 use Rattle.hoa_tokens.specs.declared.Word.the-variants as word-is
 use Rattle.hoa_tokens.specs.declared.Header.{Header}
 use Rattle.hoa_tokens.specs.declared.Header.the-variants as header-is
-use Rattle.hoa_tokens.specs.declared.Sign.{Sign}
 use Rattle.hoa_tokens.specs.declared.Sign.the-variants as sign-is
 use Rattle.hoa_tokens.specs.Bytes.{same}
 use Rattle.hoa_tokens.specs.Token.{Token, int, word, header, str, aname, sign, body, end, abort, finish, bad}
 use Rattle.job_text.specs.Job.{mostJobStates}
 use Rattle.table.specs.declared.Acceptance.{Acceptance}
-use Rattle.hoa_formula.specs.Cond.{Cond, condText}
-use Rattle.hoa_standard.specs.Standard.{FormulaMeaning, standard, short, mostPairs}
+use Rattle.hoa_standard.specs.Standard.{FormulaMeaning, standard, short}
 use Rattle.hoa_standard.specs.Formulas as formula
 use Rattle.hoa_standard.specs.Formulas.{FormulaState, formulaBegin, formulaStep, FormulaStep}
-use Rattle.hoa_step.specs.Machine.{Step, go, done, wrong, wantsInt, wantsText}
+use Rattle.hoa_step.specs.Machine.{go, done, wrong, wantsInt, wantsText}
 use Rattle.hoa_step.specs.Given.{isGiven, notBelow, notAbove}
 use Rattle.hoa_value.specs.declared.Head.{Head}
 use Rattle.hoa_value.specs.declared.Piece.{Piece}
@@ -77,7 +75,7 @@ use Rattle.hoa_value.specs.Heading.{
 }
 use Rattle.hoa_grammar.specs.Doc as doc
 use Rattle.hoa_grammar.specs.Doc.{Conj, Hint, hintWord, hintInt, Extra, extraWord, extraInt, extraText, Item, itemText, itemsText, hintsText, extrasText, wordsText, stringsText, perhapsText}
-use Rattle.hoa_grammar.specs.Subset.{Each, eachNone, eachMore, Differ, differNone, differMore, StandardAs, pairsIn}
+use Rattle.hoa_grammar.specs.Subset.{Each, eachNone, eachMore, Differ, differNone, differMore}
 use Rattle.hoa_grammar.specs.Walk.{Walk, going, over, faulty, walkBy, walk}
 use Rattle.hoa_grammar.proofs.Takes.{
   Takes,
@@ -97,7 +95,7 @@ use Rattle.hoa_grammar.proofs.Takes.{
 }
 use Rattle.hoa_grammar.proofs.Takes as takes
 use Rattle.hoa_grammar.proofs.Names.{ne-same}
-use Rattle.hoa_grammar.proofs.Leads.{Leads, ends, steps, FormulaRead, FormulaSound}
+use Rattle.hoa_grammar.proofs.Leads.{Leads, ends, steps, FormulaSound}
 use Rattle.hoa_grammar.proofs.Heads.{AllLimits, New}
 
 abbrev HeadWalk : Type 0

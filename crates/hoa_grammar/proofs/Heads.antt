@@ -1,27 +1,24 @@
 -- The items of a header are walked as they fit: each leads on to what is known behind it, or passes a limit. Assumes nothing.
-use mathlib.Core.Bool.{Bool, true, false, cond, _||_}
+use mathlib.Core.Bool.{Bool, true, false}
 use mathlib.Core.List.{List, [], _∷_}
 use mathlib.Core.Option.{Option, some, none}
-use mathlib.Core.Path.{_≡_, refl, sym, ap, _∙_}
-use Prim.Native.Nat.{ℕ, zero, suc, _+_, _≤_, _<_}
+use mathlib.Core.Path.{_≡_, refl, sym, ap}
+use Prim.Native.Nat.{ℕ, _+_}
 use native.Mathlib.Omega.{arith}
-use borrow.Author.Tests.{le-ltb, lt-leb, le-leb, lt-ltb, ltb-true, ltb-false, leb-true, leb-false, ne-eqb}
-use lib.Dec.{eqb, ltb, leb}
+use borrow.Author.Tests.{le-ltb, lt-leb, ltb-true, leb-true, ne-eqb}
+use lib.Dec.{ltb, leb}
 use lib.ListN.{length}
 use Rattle.hoa_tokens.specs.declared.Word.{Word}
-use Rattle.hoa_tokens.specs.declared.Header.{Header}
 use Rattle.hoa_tokens.specs.declared.Header.the-variants as header-is
 use Rattle.hoa_tokens.specs.declared.Sign.the-variants as sign-is
-use Rattle.hoa_tokens.specs.Token.{Token, int, word, header, str, aname, sign, body, end, abort, finish, bad}
+use Rattle.hoa_tokens.specs.Token.{Token, header, body}
 use Rattle.job_text.specs.Job.{mostJobStates}
 use Rattle.hoa_formula.specs.Cond.{condText}
 use Rattle.hoa_standard.specs.Formulas.{formulaBegin}
-use Rattle.hoa_step.specs.Machine.{Step, go, done, wrong, wantsInt, wantsText}
-use Rattle.hoa_step.specs.Given.{isGiven, notBelow, notAbove}
+use Rattle.hoa_step.specs.Machine.{wantsInt, wantsText}
 use Rattle.hoa_value.specs.declared.Head.{Head}
-use Rattle.hoa_value.specs.declared.Piece.{Piece}
 use Rattle.hoa_value.specs.declared.Piece.the-variants as piece-is
-use Rattle.hoa_value.specs.Head.{mostProps, mostMarks, withStates, withStart, withProps, withMarks, withAccName, withTool, withName}
+use Rattle.hoa_value.specs.Head.{mostProps, mostMarks, withStates, withStart, withProps, withAccName, withTool}
 use Rattle.hoa_value.specs.Heading.{
   HeadState,
   items,
@@ -54,12 +51,12 @@ use Rattle.hoa_value.specs.Heading.{
   nameCame,
 }
 use Rattle.hoa_grammar.specs.Doc as doc
-use Rattle.hoa_grammar.specs.Doc.{Conj, Hint, hintWord, hintInt, Extra, extraWord, extraInt, extraText, Item, itemText, itemsText, hintsText, extrasText, wordsText, stringsText, perhapsText}
-use Rattle.hoa_grammar.specs.Subset.{Each, eachNone, eachMore, Differ, differNone, differMore, StandardAs}
-use Rattle.hoa_grammar.specs.Walk.{Walk, going, over, faulty, walkBy, walk}
-use Rattle.hoa_grammar.proofs.Opens.{Opens, opensItem, opensBody, HeadWalk, same-step}
+use Rattle.hoa_grammar.specs.Doc.{Hint, hintWord, hintInt, Extra, extraWord, extraInt, extraText, Item, itemText, itemsText, hintsText, extrasText, wordsText, stringsText, perhapsText}
+use Rattle.hoa_grammar.specs.Subset.{Each, eachNone, eachMore, Differ, differNone, differMore}
+use Rattle.hoa_grammar.specs.Walk.{walk}
+use Rattle.hoa_grammar.proofs.Opens.{Opens, opensItem, opensBody, same-step}
 use Rattle.hoa_grammar.proofs.FormulaTexts.{formula-walk}
-use Rattle.hoa_grammar.proofs.Onward.{Onward, same, limit, by-limit, onward-then, onward-more}
+use Rattle.hoa_grammar.proofs.Onward.{Onward, same, by-limit, onward-then, onward-more}
 use Rattle.hoa_grammar.proofs.Names.{same-ne}
 use Rattle.hoa_grammar.proofs.Takes.{Takes, takesStates, takesStart, takesProps, takesAcceptance, takesAccName, takesTool, takesName, takesProperties, takesLower, ItemLimit, TakesAll, takesNone, takesMore}
 

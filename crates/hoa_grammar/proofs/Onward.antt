@@ -2,10 +2,9 @@
 use mathlib.Core.Bool.{Bool, true, false, cond}
 use mathlib.Core.List.{List}
 use mathlib.Core.Path.{_≡_, refl, _∙_}
-use Prim.Native.Nat.{ℕ}
 use Rattle.hoa_tokens.specs.Token.{Token}
-use Rattle.hoa_step.specs.Machine.{Step, go, done, wrong}
-use Rattle.hoa_grammar.specs.Walk.{Walk, going, over, faulty, walkBy}
+use Rattle.hoa_step.specs.Machine.{go, wrong}
+use Rattle.hoa_grammar.specs.Walk.{Walk, faulty, walkBy}
 
 -- what stands in front is passed, or a limit L is
 pub data Onward {S D : Type 0} (L : Type 0) (w w' : Walk S D) : Type 0 where

@@ -1,19 +1,18 @@
 -- The pairs of a formula: within the limit no token is refused for it, and a token that is refused for it stands in a formula of nine pairs or more. Where the
 -- ninth pair opens no other machine goes on (`Alone`, `Opening`). Assumes nothing.
-use mathlib.Core.Bool.{Bool, true, false, false≢true, cond, _||_, _&&_}
+use mathlib.Core.Bool.{Bool, true, false, cond, _&&_}
 use mathlib.Core.List.{List, [], _∷_}
-use mathlib.Core.Path.{_≡_, refl, sym, ap, subst, _∙_}
-use Prim.Native.Nat.{ℕ, zero, suc, _+_, _≤_, _<_, zero-le}
+use mathlib.Core.Path.{_≡_, refl, sym, subst}
+use Prim.Native.Nat.{ℕ, zero, suc, _≤_, _<_}
 use native.Mathlib.Omega.{arith}
-use borrow.Author.Tests.{leb-true, leb-false}
+use borrow.Author.Tests.{leb-false}
 use lib.Dec.{eqb, ltb, leb}
 use lib.ListN.{length}
-use Rattle.table.specs.declared.Acceptance.{Acceptance}
 use Rattle.table.specs.declared.Acceptance.the-variants as acceptance
 use Rattle.hoa_tokens.specs.Token.{Token}
 use Rattle.hoa_standard.specs.declared.Piece.{Piece}
 use Rattle.hoa_standard.specs.declared.Piece.the-variants as piece-is
-use Rattle.hoa_standard.specs.Standard.{FormulaMeaning, standard, short, mostPairs, rabinMeaning}
+use Rattle.hoa_standard.specs.Standard.{FormulaMeaning, mostPairs}
 use Rattle.hoa_standard.specs.Machines.{
   Buchi,
   RabinWants,

@@ -4,28 +4,25 @@ use mathlib.Core.Bool.{Bool, true, false, false≢true, cond, _||_, _&&_}
 use mathlib.Core.List.{List, [], _∷_}
 use mathlib.Core.Option.{Option, some, none}
 use mathlib.Core.Path.{_≡_, refl, sym, ap, subst, _∙_}
-use Prim.Native.Nat.{ℕ, zero, suc, _≤_, _<_}
-use native.Mathlib.Omega.{arith}
-use borrow.Author.Tests.{ltb-true, ltb-false, leb-true, leb-false, lt-ltb}
-use lib.Dec.{eqb, ltb, leb}
+use Prim.Native.Nat.{ℕ, _<_}
+use borrow.Author.Tests.{ltb-true, leb-false, lt-ltb}
+use lib.Dec.{ltb, leb}
 use lib.ListN.{length}
-use Rattle.hoa_tokens.specs.declared.Header.{Header}
 use Rattle.hoa_tokens.specs.declared.Header.the-variants as header-is
-use Rattle.hoa_tokens.specs.declared.Sign.{Sign}
 use Rattle.hoa_tokens.specs.declared.Sign.the-variants as sign-is
 use Rattle.hoa_tokens.specs.Token.{Token, int, word, header, str, aname, sign, body, end, abort, finish, bad}
 use Rattle.job_text.specs.Job.{mostJobStates, mostJobEdges}
-use Rattle.hoa_label.specs.Label.{Label, labelFits, labelDepth, labelText, mostLevels}
+use Rattle.hoa_label.specs.Label.{labelText, mostLevels}
 use Rattle.hoa_label.specs.Labels as label
-use Rattle.hoa_label.specs.Labels.{LabelState, labelBegin, labelStep, stepWithin, LabelStep, LabelWalk, closed, walkWithin}
+use Rattle.hoa_label.specs.Labels.{LabelState, labelBegin, labelStep, LabelStep, closed, walkWithin}
 use Rattle.hoa_label.proofs.Sets.{labelSet}
 use Rattle.hoa_label.proofs.Sound as label-sound
-use Rattle.hoa_step.specs.Machine.{Step, go, done, wrong, wantsInt}
+use Rattle.hoa_step.specs.Machine.{go, done, wrong, wantsInt}
 use Rattle.hoa_step.specs.Given.{notBelow}
 use Rattle.hoa_entry.specs.declared.Limits.{Limits}
 use Rattle.hoa_entry.specs.declared.Entry.{Entry}
 use Rattle.hoa_entry.specs.declared.Entry.the-variants as entry-is
-use Rattle.hoa_entry.specs.Sig.{sigStep, sigSign, withMark, SigStep}
+use Rattle.hoa_entry.specs.Sig.{sigStep, withMark, SigStep}
 use Rattle.hoa_entry.specs.Rows.{
   Rows,
   rows,
@@ -66,7 +63,7 @@ use Rattle.hoa_entry.specs.Rows.{
   onClosing,
   rowStep,
 }
-use Rattle.hoa_grammar.specs.Doc.{Conj, EdgeTree, Row, conjText, edgeText, edgesText, rowText, rowsText, intsText, perhapsText, perhapsLabel, perhapsSig}
+use Rattle.hoa_grammar.specs.Doc.{EdgeTree, Row, conjText, edgesText, rowsText, intsText, perhapsText, perhapsSig}
 use Rattle.hoa_grammar.specs.Subset.{Each, eachNone, eachMore, SigFits, sigMarks, marksFrom}
 use Rattle.hoa_grammar.specs.Walk.{Walk, going, over, faulty, walkBy, walk}
 use Rattle.hoa_grammar.proofs.RowTakes.{

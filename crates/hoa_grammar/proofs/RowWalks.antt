@@ -1,13 +1,13 @@
 -- Edges and rows are walked as they fit: each leads on to what is known behind it, or passes a limit. Assumes nothing.
-use mathlib.Core.Bool.{Bool, true, false, false≢true, cond, _||_, _&&_}
+use mathlib.Core.Bool.{Bool, true, false, false≢true, _&&_}
 use mathlib.Core.List.{List, [], _∷_}
 use mathlib.Core.Logic.{_⊎_, inl, inr}
 use mathlib.Core.Option.{Option, some, none}
-use mathlib.Core.Path.{_≡_, refl, sym, ap, subst, _∙_}
-use Prim.Native.Nat.{ℕ, zero, suc, _+_, _≤_, _<_, max}
+use mathlib.Core.Path.{_≡_, refl, sym, ap, _∙_}
+use Prim.Native.Nat.{ℕ, _+_, _≤_, _<_}
 use native.Mathlib.Omega.{arith}
-use borrow.Author.Tests.{ltb-true, leb-true, lt-ltb, leb-false}
-use lib.Dec.{eqb, ltb, leb}
+use borrow.Author.Tests.{ltb-true, leb-true, lt-ltb}
+use lib.Dec.{ltb, leb}
 use lib.ListN.{length}
 use Rattle.hoa_tokens.specs.declared.Header.the-variants as header-is
 use Rattle.hoa_tokens.specs.declared.Sign.the-variants as sign-is
@@ -17,13 +17,13 @@ use Rattle.hoa_label.specs.declared.Wanted.{Wanted}
 use Rattle.hoa_label.specs.declared.Wanted.the-variants as wanted-is
 use Rattle.hoa_label.specs.declared.Behind.{Behind}
 use Rattle.hoa_label.specs.declared.Behind.the-variants as behind-is
-use Rattle.hoa_label.specs.Label.{Label, labelFits, labelDepth, labelText, mostLevels, Within}
+use Rattle.hoa_label.specs.Label.{Label, labelFits, labelDepth, labelText, mostLevels}
 use Rattle.hoa_label.specs.Labels as label
-use Rattle.hoa_label.specs.Labels.{Frame, LabelState, wants, has, labelBegin, labelStep, LabelStep, stepWithin, wanted, onWanted, behind, onBehind, isOutermost, shutLevel, LabelWalk, closed, walkWithin}
+use Rattle.hoa_label.specs.Labels.{Frame, LabelState, wants, has, labelBegin, labelStep, LabelStep, stepWithin, wanted, onWanted, behind, onBehind, isOutermost, shutLevel, closed, walkWithin}
 use Rattle.hoa_label.proofs.Sets.{labelSet}
 use Rattle.hoa_label.proofs.Walks.{closed-going, faulty-going, closed-faulty, faulty-inj, closed-set, closed-rest}
 use Rattle.hoa_label.proofs.Complete as label-complete
-use Rattle.hoa_step.specs.Machine.{Step, go, done, wrong, wantsInt}
+use Rattle.hoa_step.specs.Machine.{go, wrong, wantsInt}
 use Rattle.hoa_step.specs.Given.{notBelow}
 use Rattle.hoa_entry.specs.declared.Limits.{Limits}
 use Rattle.hoa_entry.specs.Sig.{sigStep, withMark}
@@ -54,9 +54,9 @@ use Rattle.hoa_entry.specs.Rows.{
   onLabel,
   rowStep,
 }
-use Rattle.hoa_grammar.specs.Doc.{Conj, EdgeTree, Row, conjText, edgeText, edgesText, rowText, rowsText, intsText, perhapsText, perhapsLabel, perhapsSig}
+use Rattle.hoa_grammar.specs.Doc.{EdgeTree, Row, conjText, edgeText, edgesText, rowText, rowsText, intsText, perhapsText, perhapsLabel, perhapsSig}
 use Rattle.hoa_grammar.specs.Subset.{Each, eachNone, eachMore, SigFits, sigMarks, marksFrom}
-use Rattle.hoa_grammar.specs.Walk.{Walk, going, over, faulty, walkBy, walk}
+use Rattle.hoa_grammar.specs.Walk.{Walk, faulty, walkBy, walk}
 use Rattle.hoa_grammar.proofs.Onward.{Onward, same, limit, by-limit, onward-then, onward-more, onward-by, onward-from}
 use Rattle.hoa_grammar.proofs.RowTakes.{
   edgeTree,

@@ -2,24 +2,21 @@
 use mathlib.Core.Bool.{Bool, true, false, false≢true, _||_}
 use mathlib.Core.List.{List, [], _∷_, _++_}
 use mathlib.Core.Logic.{_⊎_, inl, inr, _↔_}
-use mathlib.Core.Option.{Option, some, none}
 use mathlib.Core.Path.{_≡_, refl, sym, ap, subst, _∙_}
-use Prim.Native.Nat.{ℕ, zero, suc, _+_, _≤_, _<_, max}
+use Prim.Native.Nat.{ℕ, zero, suc, _+_, _≤_, _<_}
 use native.Mathlib.Omega.{arith}
-use borrow.Author.Tests.{lt-leb, leb-false, ne-eqb, eqb-false}
-use lib.Dec.{eqb, leb}
+use borrow.Author.Tests.{ne-eqb, eqb-false}
+use lib.Dec.{eqb}
 use lib.ListN.{length, length-append}
 use Rattle.job_text.specs.Value.{Edge}
 use Rattle.job_text.specs.Job.{mostJobStates, mostJobEdges}
-use Rattle.hoa_label.specs.Label.{Label, labelFits, labelDepth, mostLevels, Satisfiable}
+use Rattle.hoa_label.specs.Label.{Satisfiable}
 use Rattle.hoa_label.proofs.Sets.{labelSet}
 use Rattle.hoa_label.proofs.Meaning.{meaning, satisfiable}
-use Rattle.hoa_step.specs.declared.Given.{Given}
-use Rattle.hoa_step.specs.declared.Given.the-variants.{Not, Value}
 use Rattle.hoa_step.specs.Given.{notBelow}
 use Rattle.hoa_entry.specs.declared.Limits.{Limits}
-use Rattle.hoa_entry.specs.Rows.{Rows, rows, withRow, withSig, withEdge, kept, came, lastRow, fullRows, wrongEnd}
-use Rattle.hoa_grammar.specs.Doc.{Conj, EdgeTree, Row}
+use Rattle.hoa_entry.specs.Rows.{Rows, withRow, withSig, withEdge, kept, came, lastRow}
+use Rattle.hoa_grammar.specs.Doc.{EdgeTree, Row}
 use Rattle.hoa_grammar.specs.Subset.{
   Each,
   eachNone,

@@ -9,9 +9,8 @@ use lib.ListN.{length, drop}
 use Rattle.job_text.specs.Job.{mostJobStates, mostJobEdges}
 use Rattle.hoa_step.specs.Given.{notBelow}
 use Rattle.hoa_tokens.specs.Token.{Token, int, word, header, str, aname, sign, body, end, abort, finish, bad}
-use Rattle.hoa_tokens.specs.declared.Header.{Header}
 use Rattle.hoa_tokens.specs.declared.Header.the-variants as header-is
-use Rattle.hoa_tokens.specs.Stream.{Placed, first, unlessFinished, some, tokensAt}
+use Rattle.hoa_tokens.specs.Stream.{Placed, first, unlessFinished, some}
 use Rattle.hoa_step.specs.Machine.{Step, go, done, wrong, End, doneAt, wrongAt, cut, endBy, run, wantsInt}
 use Rattle.hoa_label.specs.Labels as label
 use Rattle.hoa_label.specs.Labels.{LabelStep, labelStep, labelBegin}

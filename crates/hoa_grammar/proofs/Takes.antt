@@ -13,7 +13,7 @@ use Rattle.job_text.specs.Job.{mostJobStates}
 use Rattle.hoa_step.specs.Given.{isGiven, notBelow, notAbove}
 use Rattle.hoa_value.specs.declared.Head.{Head}
 use Rattle.hoa_value.specs.Head.{mostProps, mostMarks, withStates, withStart, withProps, withMarks, withAccName, withTool, withName}
-use Rattle.hoa_grammar.specs.Doc.{Conj, Hint, Extra, Item, states, start, props, alias, acceptance, accName, tool, name, properties, capital, lower}
+use Rattle.hoa_grammar.specs.Doc.{Conj, Hint, Extra, Item, states, start, props, acceptance, accName, tool, name, properties, lower}
 use Rattle.hoa_grammar.specs.Subset.{Differ, Formula, StandardAs, pairsIn}
 
 -- the formula with c marks

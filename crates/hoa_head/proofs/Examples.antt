@@ -1,7 +1,6 @@
 -- The rules' own examples of headers (docs/RULES.md, "The Hanoi format", the faulty token), computed from the definitions. Assumes nothing.
 use mathlib.Core.Path.{_≡_, refl}
-use mathlib.Core.List.{List, [], _∷_}
-use Prim.Native.Nat.{ℕ}
+use mathlib.Core.List.{[], _∷_}
 use Rattle.table.specs.declared.Acceptance.the-variants.{Buchi}
 use Rattle.hoa_tokens.specs.Bytes.{bytes, same, isDigit, isCapital, isLetter, isName, isBlank, run as ahead}
 use Rattle.hoa_tokens.specs.Token.{finish, wordOf, furtherHeader, headerOf, spelt, isInt, number, named, quoted, at, fixed, signOf, front}

@@ -42,10 +42,6 @@ module _ (text : List ℕ) (at : ℕ) (h : Head) (r : HeadTurn) where
   pub turned-stops : (s : HeadState) (n p : ℕ) → r ≡ refusedTurn n p h → run headStep (tokensAt text at) s ≡ wrongAt n p → p ≤ length text → Turned text at at s r
   turned-stops s n p e q l = rw e record { says = q; stays = l }
 
-  pub turned-goes : (s : HeadState) (next : ℕ) → r ≡ record { turn = turn.Go next; head = h } → run headStep (tokensAt text at) s ≡ run headStep (tokensAt text next) (items h)
-      → at ≤ next → next ≤ length text → Turned text at at s r
-  turned-goes s next e q a b = rw e record { says = q; stays = (a, b) }
-
   -- behind a part without a value
   pub passed-turned : (from : Head → HeadState) (p : Passed) → Passes text at from items p → r ≡ passedTurn p h → Turned text at at (from h) r
   passed-turned from (passed.Behind next) q e = rw e record { says = q .says h; stays = q .stays }

@@ -9,7 +9,7 @@ use Rattle.hoa_tokens.specs.Token.{finish}
 use Rattle.hoa_tokens.specs.Stream.{tokensAt}
 use Rattle.hoa_tokens.proofs.Sizes.{byTest}
 use Rattle.hoa_standard.specs.Formulas as formula
-use Rattle.hoa_standard.specs.Formulas.{FormulaState, FormulaStep, formulaStep, freeStep, limited, onStage, Stage, ends, pieceOf as formulaPiece}
+use Rattle.hoa_standard.specs.Formulas.{FormulaState, FormulaStep, formulaStep, freeStep, limited, onStage, Stage, pieceOf as formulaPiece}
 use Rattle.hoa_standard.specs.Standard.{standard, short}
 use Rattle.hoa_step.specs.Machine.{go, wrong, End, doneAt, wrongAt, cut, wantsInt, wantsText}
 use Rattle.hoa_step.proofs.Finishes as finishes

@@ -4,7 +4,7 @@ use mathlib.Core.List.{List}
 use Prim.Native.Nat.{ℕ, _≤_}
 use lib.ListN.{length}
 use Rattle.hoa_tokens.specs.Stream.{tokensAt}
-use Rattle.hoa_step.specs.Machine.{End, doneAt, wrongAt, cut, run}
+use Rattle.hoa_step.specs.Machine.{End, doneAt, wrongAt, run}
 use Rattle.hoa_value.specs.declared.Head.{Head}
 use Rattle.hoa_head.specs.declared.HeadEnd.{HeadEnd}
 use Rattle.hoa_head.specs.declared.HeadEnd.the-variants.{Body, Refused}

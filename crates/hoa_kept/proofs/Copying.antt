@@ -1,14 +1,13 @@
 -- The kept edges by states: what the tables hold is what `sorted` says. Assumes nothing.
 use mathlib.Core.Path.{_≡_, refl, sym, ap, _∙_}
-use mathlib.Core.Bool.{Bool, true, false, cond}
 use mathlib.Core.List.{List, [], _∷_, _++_, map, append-assoc, append-nil, map-append}
 use Prim.Native.Nat.{ℕ, zero, suc, _+_, _-_, _≤_, _<_}
 use native.Mathlib.Omega.{arith}
 use native.Mathlib.Numerals.{add-one}
 use borrow.Author.Tests.{eqb-true, leb-true, leb-false}
 use lib.Dec.{eqb, leb}
-use lib.ListN.{length, getD, set, take, drop, replicate, length-append, length-take, length-drop, length-map, length-replicate, length-set}
-use lib.Seq.{take-suc, take-suc-set, take-append-le, drop-append-le, getD-drop, take-add, take-length, take-set-le}
+use lib.ListN.{length, getD, set, take, drop, replicate, length-append, length-take, length-drop, length-map, length-set}
+use lib.Seq.{take-suc, take-suc-set, take-append-le, drop-append-le, getD-drop}
 use Rattle.hoa_tokens.proofs.Sizes.{byTest}
 use Rattle.job_text.specs.Value.{Edge, padTo}
 use Rattle.job_text.specs.Job.{mostJobEdges}

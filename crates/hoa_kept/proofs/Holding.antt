@@ -1,14 +1,13 @@
 -- What a row and an edge change keeps the rows held. Assumes nothing.
 use mathlib.Core.Path.{_≡_, refl, sym, ap, _∙_}
-use mathlib.Core.Bool.{Bool, true, false, false≢true, cond, _||_}
-use mathlib.Core.List.{List, [], _∷_, _++_, map, append-assoc, append-nil, map-append}
-use mathlib.Core.Logic.{_⊎_, inl, inr, ⊎-elim}
+use mathlib.Core.Bool.{true, false≢true}
+use mathlib.Core.List.{List, [], _∷_, _++_, map, append-nil, map-append}
 use Prim.Native.Nat.{ℕ, zero, suc, _+_, _-_, _≤_, _<_, max}
 use native.Mathlib.Omega.{arith}
-use borrow.Author.Tests.{lt-ltb, le-ltb, eq-eqb, ne-eqb, eqb-true, eqb-false, ltb-true, ltb-false}
+use borrow.Author.Tests.{lt-ltb, eq-eqb, ne-eqb, eqb-true, eqb-false, ltb-true}
 use lib.Dec.{eqb, ltb}
-use lib.ListN.{length, getD, set, take, drop, replicate, length-append, length-take, length-drop, length-map, length-replicate, length-set, getD-replicate}
-use lib.Seq.{take-suc, take-append-le, drop-append-le, getD-drop, take-length, take-all, getD-set-same, getD-set-other}
+use lib.ListN.{length, getD, set, take, drop, replicate, length-append, length-drop, length-map, length-replicate, length-set}
+use lib.Seq.{take-append-le, drop-append-le, take-all, getD-set-same, getD-set-other}
 use Rattle.hoa_tokens.proofs.Sizes.{byTest}
 use Rattle.job_text.specs.Value.{Edge, padTo}
 use Rattle.job_text.specs.Job.{mostJobStates, mostJobEdges}
@@ -18,7 +17,7 @@ use Rattle.hoa_entry.specs.Rows.{Rows, noRows, lastRow, came, kept, withRow, wi
 use Rattle.hoa_entry.specs.inner.Reads.{Listed}
 use Rattle.hoa_kept.specs.Sorted.{leaving}
 use Rattle.hoa_kept.specs.inner.Copied.{firstOf, endOf}
-use Rattle.hoa_kept.specs.inner.Held.{Holds, Blank, Begun, rowsWith, cellsWith, EdgeKept}
+use Rattle.hoa_kept.specs.inner.Held.{Holds, Blank, Begun, rowsWith, EdgeKept}
 
 -- ---- nothing yet
 

@@ -1,29 +1,27 @@
 -- The edges that are read, in the lent tables; and the whole promise. Assumes nothing.
 use mathlib.Core.Path.{_≡_, refl, sym, ap, _∙_}
-use mathlib.Core.Bool.{Bool, true, false, false≢true, cond, _&&_}
-use mathlib.Core.List.{List, [], _∷_, _++_, map}
-use Prim.Native.Nat.{ℕ, zero, suc, _+_, _-_, _≤_, _<_}
+use mathlib.Core.Bool.{Bool, true, false, false≢true, _&&_}
+use mathlib.Core.List.{List, [], _∷_, map}
+use Prim.Native.Nat.{ℕ, zero, suc, _-_, _≤_, _<_}
 use native.Mathlib.Omega.{arith}
 use borrow.Author.Tests.{eq-eqb, ne-eqb, eqb-true, eqb-false, leb-true}
 use lib.Dec.{eqb, leb}
-use lib.ListN.{length, getD, take, replicate, length-append, length-map, length-replicate, length-take}
+use lib.ListN.{length, take, replicate, length-append, length-map, length-replicate}
 use lib.Seq.{take-all, length-take-le}
 use Rattle.hoa_tokens.proofs.Sizes.{byTest}
 use Rattle.job_text.specs.Value.{Edge, padTo}
-use Rattle.job_text.specs.Job.{mostJobStates, mostJobEdges}
-use Rattle.hoa_tokens.specs.Stream.{Placed}
-use Rattle.hoa_step.specs.Machine.{doneAt, wrongAt}
+use Rattle.job_text.specs.Job.{mostJobEdges}
+use Rattle.hoa_step.specs.Machine.{wrongAt}
 use Rattle.hoa_entry.specs.declared.Limits.{Limits}
 use Rattle.hoa_rows.specs.declared.RowsRead.{RowsRead}
 use Rattle.hoa_rows.specs.declared.RowsRead.the-variants.{Kept, Refused}
 use Rattle.hoa_kept.specs.declared.held.RowsSoFar.{RowsSoFar}
 use Rattle.hoa_kept.specs.Sorted.{leaving, sorted}
-use Rattle.hoa_rows.specs.Lent.{rowsEnd, edgesOf, fits, RowsInto}
+use Rattle.hoa_rows.specs.Lent.{rowsEnd, fits, RowsInto}
 use Rattle.hoa_rows.specs.Worth.{AllFit, Worth}
-use Rattle.hoa_kept.specs.inner.Held.{Holds}
 use Rattle.hoa_rows.specs.inner.Turns.{keptBy, Finished}
-use Rattle.hoa_kept.specs.inner.Copied.{Filled, firstOf, endOf, total, statesOf, partsOf, Fitting, RowsCopied}
-use Rattle.hoa_rows.specs.inner.Handed.{Handing, handed, cellsWhere, Handed}
+use Rattle.hoa_kept.specs.inner.Copied.{Filled, statesOf, partsOf, Fitting, RowsCopied}
+use Rattle.hoa_rows.specs.inner.Handed.{Handing, Handed}
 use Rattle.hoa_kept.proofs.Copying.{Parted, total-sorted, states-sorted, parts-sorted}
 use Rattle.hoa_rows.proofs.Worth.{worth}
 

@@ -1,7 +1,7 @@
 -- What the promise comes to: two results that it allows are equal (`unique`), the rows of a text are never cut (`never-cut`), and what is handed over is
 -- sorted and a table's worth (`table`). Assumes nothing.
 use mathlib.Core.Path.{_≡_, refl, sym, ap, subst, _∙_}
-use mathlib.Core.Bool.{Bool, true, false, false≢true, cond}
+use mathlib.Core.Bool.{Bool, true, false, false≢true}
 use mathlib.Core.List.{List, [], _∷_, _++_}
 use Prim.Native.Nat.{ℕ, zero, suc, _+_, _-_, _≤_, _<_}
 use native.Mathlib.Omega.{arith}
@@ -14,17 +14,17 @@ use Rattle.hoa_tokens.proofs.Sizes.{byTest}
 use Rattle.hoa_tokens.proofs.Next.{Stands, over, there, stands}
 use Rattle.job_text.specs.Value.{Edge}
 use Rattle.job_text.specs.Job.{mostJobEdges}
-use Rattle.hoa_step.specs.Machine.{Step, End, go, done, wrong, doneAt, wrongAt, cut, endBy, run}
+use Rattle.hoa_step.specs.Machine.{End, go, done, wrong, doneAt, wrongAt, cut, endBy, run}
 use Rattle.hoa_entry.specs.declared.Limits.{Limits}
 use Rattle.hoa_rows.specs.declared.RowsRead.{RowsRead}
 use Rattle.hoa_entry.specs.Sig.{sigStep}
-use Rattle.hoa_label.specs.Labels.{LabelState, wants, has, labelStep, stepWithin, wanted, behind}
+use Rattle.hoa_label.specs.Labels.{wants, has, labelStep, stepWithin, wanted, behind}
 use Rattle.hoa_entry.specs.Rows.{Kept, RowState, RowStep, noRows, entries, rowNumber, rowName, rowSig, rowMarks, inLabel, target, targetMore, edgeMarks, closing}
 use Rattle.hoa_entry.specs.Rows.{onClosing, entryOf, rowStep}
 use Rattle.hoa_step.specs.Machine.{wantsInt}
 use Rattle.hoa_kept.specs.Sorted.{leaving, sorted}
 use Rattle.hoa_rows.specs.Lent.{rowsEnd, edgesOf, RowsInto}
-use Rattle.hoa_rows.specs.Worth.{Fits, AllFit, Agrees, Worth}
+use Rattle.hoa_rows.specs.Worth.{AllFit}
 use Rattle.hoa_rows.proofs.Worth.{worth}
 use Rattle.hoa_rows.proofs.Handing.{sorted-all}
 

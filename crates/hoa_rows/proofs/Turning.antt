@@ -2,23 +2,23 @@
 use mathlib.Core.Path.{_≡_, refl, sym, ap, _∙_}
 use mathlib.Core.Bool.{Bool, true, false, false≢true, cond}
 use mathlib.Core.List.{List, [], _∷_}
-use Prim.Native.Nat.{ℕ, zero, suc, _≤_, _<_}
+use Prim.Native.Nat.{ℕ, zero, suc, _<_}
 use native.Mathlib.Omega.{arith}
 use borrow.Author.Tests.{ne-eqb}
-use lib.Dec.{eqb, ltb, leb}
-use lib.ListN.{length, getD}
+use lib.Dec.{eqb}
+use lib.ListN.{length}
 use Rattle.hoa_tokens.proofs.Sizes.{byTest}
-use Rattle.job_text.specs.Job.{mostJobStates, mostJobEdges}
+use Rattle.job_text.specs.Job.{mostJobEdges}
 use Rattle.hoa_tokens.specs.declared.Header.{Header}
 use Rattle.hoa_tokens.specs.declared.Header.the-variants as header-is
 use Rattle.hoa_tokens.specs.declared.Found.{Found}
 use Rattle.hoa_tokens.specs.Token.{Token, int, word, header, str, aname, sign, body, end, abort, finish, bad}
-use Rattle.hoa_tokens.specs.Stream.{Placed, placed, tokensAt, tokenOf, unlessFinished, TokenAt}
+use Rattle.hoa_tokens.specs.Stream.{Placed, tokensAt, tokenOf, unlessFinished, TokenAt}
 use Rattle.hoa_tokens.proofs.Next.{tokens-next}
 use Rattle.hoa_step.specs.declared.Given.{Given}
 use Rattle.hoa_step.specs.declared.Given.the-variants.{Not, Value}
 use Rattle.hoa_step.specs.Given.{notBelow}
-use Rattle.hoa_step.specs.Machine.{Step, End, go, done, wrong, doneAt, wrongAt, run}
+use Rattle.hoa_step.specs.Machine.{go, done, wrong, wrongAt, run}
 use Rattle.hoa_label.specs.Labels.{labelBegin}
 use Rattle.hoa_entry.specs.declared.Limits.{Limits}
 use Rattle.hoa_entry.specs.declared.Entry.{Entry}
@@ -37,12 +37,12 @@ use Rattle.hoa_rows.specs.declared.reader.Turn.{Turn}
 use Rattle.hoa_rows.specs.declared.reader.Turn.the-variants as turn-is
 use Rattle.hoa_entry.specs.Rows as spec
 use Rattle.hoa_entry.specs.Rows.{Rows, RowStep, noRows, entries, rowNumber, inLabel, closing, withRow}
-use Rattle.hoa_entry.specs.Rows.{withSig, withEdge, behindRow, onEntry, closingHeader, onClosing, entryOf, rowStep}
+use Rattle.hoa_entry.specs.Rows.{withSig, withEdge, behindRow, onEntry, closingHeader, onClosing, rowStep}
 use Rattle.hoa_rows.specs.Lent.{rowsEnd}
 use Rattle.hoa_entry.specs.inner.Reads.{from, Onward, EntryHere, Behind, isFault, RowAt, EdgeAt}
 use Rattle.hoa_kept.specs.inner.Held.{Holds, Room, Blank, RowRoom, Begun, EdgeRoom, rowsWith, EdgeKept}
 use Rattle.hoa_rows.specs.inner.Turns.{endsWrong, admittedOf, admittedStep, closingHeaderFault, closingFault, keptBy, Closed, CloseAt}
-use Rattle.hoa_rows.specs.inner.Turns.{GoesOn, Finished, Ended, TurnSays, GoesRoom, TurnRoom, RowTaken, EdgeTaken, Turned}
+use Rattle.hoa_rows.specs.inner.Turns.{GoesOn, Ended, TurnRoom, RowTaken, EdgeTaken, Turned}
 use Rattle.hoa_entry.proofs.Steps.{step-goes, step-ends, step-faults}
 use Rattle.hoa_kept.proofs.Holding.{holds-none, holds-row, holds-edge}
 

@@ -1,10 +1,10 @@
 -- What rows that are read to their end keep is a table's worth: the machine's states all keep this promise (`worth`). Assumes nothing.
-use mathlib.Core.Path.{_≡_, refl, sym, ap, _∙_}
-use mathlib.Core.Bool.{Bool, true, false, false≢true, cond, _||_, _&&_}
-use mathlib.Core.List.{List, [], _∷_, _++_, append-nil}
+use mathlib.Core.Path.{_≡_, refl, sym, ap}
+use mathlib.Core.Bool.{Bool, true, false, false≢true, cond, _||_}
+use mathlib.Core.List.{List, [], _∷_, _++_}
 use Prim.Native.Nat.{ℕ, zero, suc, _+_, _^_, _≤_, _<_, max}
 use native.Mathlib.Omega.{arith}
-use borrow.Author.Tests.{lt-ltb, eq-eqb, ne-eqb, eqb-true, eqb-false, ltb-true, ltb-false, leb-true, leb-false}
+use borrow.Author.Tests.{lt-ltb, eq-eqb, ne-eqb, eqb-true, eqb-false, ltb-true, ltb-false, leb-false}
 use lib.Bits.{or-lt}
 use lib.Dec.{eqb, ltb, leb}
 use lib.ListN.{length, length-append}
@@ -22,7 +22,7 @@ use Rattle.hoa_tokens.specs.Stream.{Placed, tokensAt}
 use Rattle.hoa_step.specs.declared.Given.{Given}
 use Rattle.hoa_step.specs.declared.Given.the-variants.{Not, Value}
 use Rattle.hoa_step.specs.Given.{notBelow}
-use Rattle.hoa_step.specs.Machine.{Step, End, go, done, wrong, doneAt, wrongAt, cut, endBy, run, wantsInt}
+use Rattle.hoa_step.specs.Machine.{End, go, done, wrong, doneAt, wrongAt, cut, endBy, run, wantsInt}
 use Rattle.hoa_label.specs.Labels as label
 use Rattle.hoa_label.specs.Labels.{labelBegin, labelStep, LabelStep}
 use Rattle.hoa_entry.specs.declared.Limits.{Limits}
@@ -34,7 +34,7 @@ use Rattle.hoa_entry.specs.Rows.{came, entries, rowNumber, rowName, rowSig, row
 use Rattle.hoa_entry.specs.Rows.{fullRows, wrongEnd, behindRow, onEntry, onNumber, labelled, onSig, onName, onRowMarks}
 use Rattle.hoa_entry.specs.Rows.{shutLabel, onLabel, onTarget, onMore, onEdgeMarks, closingHeader, onClosing, entryOf, rowStep}
 use Rattle.hoa_rows.specs.Lent.{rowsEnd}
-use Rattle.hoa_rows.specs.Worth.{Fits, AllFit, Agrees, Worth}
+use Rattle.hoa_rows.specs.Worth.{AllFit, Agrees, Worth}
 
 -- ---- how many rows there can be
 

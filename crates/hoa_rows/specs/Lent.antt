@@ -1,12 +1,12 @@
 -- What comes back for the rows of a text, and what the lent tables hold (docs/RULES.md, "The Hanoi format", what comes back). Assumes nothing.
 use mathlib.Core.Path.{_≡_}
 use mathlib.Core.Bool.{Bool, cond, _&&_}
-use mathlib.Core.List.{List, map, _++_}
-use Prim.Native.Nat.{ℕ, _-_, _≤_}
+use mathlib.Core.List.{List, map}
+use Prim.Native.Nat.{ℕ}
 use lib.Dec.{leb}
-use lib.ListN.{length, replicate}
+use lib.ListN.{length}
 use Rattle.job_text.specs.Value.{Edge, padTo}
-use Rattle.hoa_tokens.specs.Stream.{Placed, tokensAt}
+use Rattle.hoa_tokens.specs.Stream.{tokensAt}
 use Rattle.hoa_step.specs.Machine.{End, doneAt, wrongAt, cut, run}
 use Rattle.hoa_entry.specs.declared.Limits.{Limits}
 use Rattle.hoa_rows.specs.declared.RowsRead.{RowsRead}

@@ -1,10 +1,9 @@
 -- How the reader's cases go on, as its functions ask it: at counts that are not 0, and in the cases that a match leaves over. Assumes nothing.
-use mathlib.Core.Bool.{Bool, true, false, cond}
-use mathlib.Core.List.{List, [], _∷_}
-use mathlib.Core.Path.{_≡_, refl, ap}
+use mathlib.Core.Bool.{Bool, false}
+use mathlib.Core.List.{[], _∷_}
+use mathlib.Core.Path.{_≡_, refl}
 use Prim.Native.Nat.{ℕ, zero, suc, _-_, _<_, _≤_, _%_}
 use native.Mathlib.Omega.{arith}
-use lib.Dec.{T, eqb}
 use borrow.Author.Tests.{ne-eqb}
 use denote.Enum.Declared
 use types.Run.{OneOf, miss}

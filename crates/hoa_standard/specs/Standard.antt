@@ -1,10 +1,9 @@
 -- The standard formulas with c marks, `std(c)` (docs/RULES.md, "The Hanoi format", the subset): one type for each nonterminal, its text with what follows
 -- it, and what it means. A formula of the rules' `infs(i,j)` is one of `Infs` whose atoms are numbered from i on and end before j (`infsEnd`); so for the others.
 -- Assumes nothing.
-use mathlib.Core.Bool.{Bool, true, false}
 use mathlib.Core.List.{List, [], _∷_, _++_, reverse}
 use mathlib.Core.Path.{_≡_}
-use Prim.Native.Nat.{ℕ, zero, suc, _-_, _/_, _%_}
+use Prim.Native.Nat.{ℕ, suc, _-_, _/_, _%_}
 use lib.ListN.{length, replicate}
 use Rattle.table.specs.declared.Acceptance.{Acceptance}
 use Rattle.table.specs.declared.Acceptance.the-variants as acceptance

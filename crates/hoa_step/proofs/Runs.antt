@@ -8,7 +8,7 @@ use lib.ListN.{length, drop, length-drop}
 use Rattle.hoa_tokens.specs.Token.{Token, int, str}
 use Rattle.hoa_tokens.specs.Stream.{Placed, placed, first, tokensAt, some as upTo}
 use Rattle.hoa_tokens.proofs.Next.{Stands, over, there, stands}
-use Rattle.hoa_step.specs.Machine.{Step, go, done, wrong, doneAt, wrongAt, endBy, run, wantsInt, wantsText}
+use Rattle.hoa_step.specs.Machine.{Step, go, wrong, wrongAt, endBy, run, wantsInt, wantsText}
 use Rattle.hoa_step.specs.Wanted.{Faulty, intFault, textFault}
 
 -- ---- where the first token is known
@@ -18,10 +18,6 @@ module _ {S D : Type 0} (step : S → Token → Step S D) (text : List ℕ) (at 
   pub first-goes : {s : S} (s' : S) → step s t ≡ go s' → run step (tokensAt text at) s ≡ run step rest s'
   unfolding run
   first-goes s' e = rw (is, e)
-
-  pub first-ends : {s : S} (d : D) → step s t ≡ done d → run step (tokensAt text at) s ≡ doneAt d rest
-  unfolding run
-  first-ends d e = rw (is, e)
 
   pub first-wrong : {s : S} (n : ℕ) → step s t ≡ wrong n → run step (tokensAt text at) s ≡ wrongAt n p
   unfolding run

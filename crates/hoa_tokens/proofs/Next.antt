@@ -132,18 +132,3 @@ token-goes-on text at f h n = go (found-stands text at f h)
         → tokensAt text at ≡ placed (f .first) (f .next) (tokenOf text (f .first) (f .next) (f .kind)) ∷ tokensAt text (f .next)
     go (over e _ _) = absurd (n (finish-kind text (f .first) (f .next) (f .kind) e))
     go (there e _ _ _) = tokens-next text at f h ∙ rw (unfinished (tokenOf text (f .first) (f .next) (f .kind)) (tokensAt text (f .next)) e)
-
--- the text's end is the last
-pub token-last : (text : List ℕ) (at : ℕ) (f : Found) → TokenAt text at f → f .kind ≡ kind-is.Finish
-    → tokensAt text at ≡ placed (f .first) (f .next) finish ∷ []
-token-last text at f h k = tokens-next text at f h ∙ rw k
-
--- the text's end stands at its end
-pub token-ends : (text : List ℕ) (at : ℕ) (f : Found) → TokenAt text at f → f .kind ≡ kind-is.Finish → at ≤ length text
-    → (f .first ≡ length text) × (f .next ≡ length text)
-token-ends text at f h k l = go (found-stands text at f h)
-  where
-    go : Stands at (length (drop at text)) (placed (f .first) (f .next) (tokenOf text (f .first) (f .next) (f .kind)))
-        → (f .first ≡ length text) × (f .next ≡ length text)
-    go (over _ a b) = (omega (arith, length-drop at text), omega (arith, length-drop at text))
-    go (there e _ _ _) = absurd (false≢true (sym (rw k at e)))

@@ -1,16 +1,13 @@
 -- What stays true from token to token while a formula is read (`Keeps`): counts of brackets stay small, and the needs are counted. Assumes nothing.
-use mathlib.Core.Bool.{Bool, true, false, cond, not, _&&_, _||_}
+use mathlib.Core.Bool.{Bool, true, false, cond, _&&_}
 use mathlib.Core.List.{List, [], _∷_, _++_, reverse, reverse-cons, append-assoc}
 use mathlib.Core.Path.{_≡_, refl, sym, ap, _∙_}
-use mathlib.Core.Logic.{⊎-elim}
 use Prim.Native.Nat.{ℕ, zero, suc, _%_, _+_, _-_, _≤_, _<_}
 use native.Mathlib.Numerals.{add-one}
 use native.Mathlib.Omega.{arith}
-use native.Mathlib.Decide.{ℕ-discrete}
 use lib.Dec.{eqb, ltb, leb}
-use lib.ListN.{length, getD, set, replicate, length-append, length-replicate, length-reverse, length-set}
-use lib.Seq.{getD-set-same, getD-set-other}
-use borrow.Author.Tests.{ltb-true, leb-false, ne-eqb}
+use lib.ListN.{length, getD, set, replicate, length-reverse}
+use borrow.Author.Tests.{leb-false, ne-eqb}
 use Rattle.hoa_standard.specs.declared.Piece.{Piece}
 use Rattle.hoa_standard.specs.declared.Piece.the-variants as piece-is
 use Rattle.hoa_standard.specs.declared.Ahead.{Ahead}
@@ -20,18 +17,17 @@ use Rattle.hoa_standard.specs.declared.Past.the-variants as past-is
 use Rattle.hoa_turn.specs.declared.step.Stage.{Stage}
 use Rattle.hoa_turn.specs.declared.step.Stage.the-variants as stage-is
 use Rattle.hoa_turn.specs.declared.step.Formula.{Formula}
-use Rattle.hoa_turn.specs.declared.step.Turn.{Turn}
 use Rattle.hoa_turn.specs.declared.step.Turn.the-variants as turn-is
 use Rattle.hoa_turn.specs.declared.needs.Needs.{Needs}
 use Rattle.hoa_standard.specs.Standard.{mostPairs, eightNeeds}
 use Rattle.hoa_standard.specs.Machines.{RabinWants}
 use Rattle.hoa_standard.specs.Formulas.{needsInf, needsFin}
-use Rattle.hoa_standard.specs.inner.Sides.{aheadIs, aheadWithin, pastWithin, firstPair, closedPair, closedInf, streettPast, openedTo, infTo, finTo, truthTo, closedTo}
+use Rattle.hoa_standard.specs.inner.Sides.{aheadIs, aheadWithin, pastWithin, openedTo, infTo, finTo, truthTo, closedTo}
 use Rattle.hoa_standard.specs.inner.Sides.{andTo, orTo, isLostAhead, isLostPast}
 use Rattle.hoa_turn.specs.inner.Turns as turns
-use Rattle.hoa_turn.specs.inner.Turns.{stageWithin, Within, formula, opensPairAhead, goAhead, goNamed, goPast, turnAt}
-use Rattle.hoa_turn.specs.inner.Counts.{Counts, noNinth, Bounded, tally, neededTo, begunTo, infNeeds, operandNeeds, stageNeeds, countedTo}
-use Rattle.hoa_turn.proofs.Steps.{needsPast, needsNext}
+use Rattle.hoa_turn.specs.inner.Turns.{Within, formula, opensPairAhead, goAhead, goNamed, goPast, turnAt}
+use Rattle.hoa_turn.specs.inner.Counts.{Counts, noNinth, Bounded, tally, neededTo, begunTo, infNeeds, stageNeeds, countedTo}
+use Rattle.hoa_turn.proofs.Steps.{needsNext}
 
 -- ---- counts of brackets
 

@@ -1,9 +1,9 @@
 -- The cases that the reader keeps go on as the four machines do (`open-is` to `or-is`), so that its turn is the admission of a token (`turn-is`).
 -- Assumes nothing.
-use mathlib.Core.Bool.{Bool, true, false, cond, not, _&&_, _||_}
-use mathlib.Core.List.{List, [], _∷_}
-use mathlib.Core.Path.{_≡_, refl, sym, ap, _∙_}
-use Prim.Native.Nat.{ℕ, zero, suc, _%_, _≤_}
+use mathlib.Core.Bool.{Bool, true, false, cond, not, _&&_}
+use mathlib.Core.List.{List}
+use mathlib.Core.Path.{_≡_, refl, ap, _∙_}
+use Prim.Native.Nat.{ℕ, zero, suc, _%_}
 use lib.Dec.{eqb, ltb, leb}
 use lib.ListN.{length}
 use Rattle.hoa_standard.specs.declared.Piece.{Piece}
@@ -15,15 +15,14 @@ use Rattle.hoa_standard.specs.declared.Past.the-variants as past-is
 use Rattle.hoa_turn.specs.declared.step.Stage.{Stage}
 use Rattle.hoa_turn.specs.declared.step.Stage.the-variants as stage-is
 use Rattle.hoa_turn.specs.declared.step.Formula.{Formula}
-use Rattle.hoa_turn.specs.declared.step.Turn.{Turn}
 use Rattle.hoa_turn.specs.declared.step.Turn.the-variants as turn-is
 use Rattle.hoa_standard.specs.Standard.{FormulaMeaning, short, mostPairs}
 use Rattle.hoa_standard.specs.Machines.{Buchi, RabinWants, RabinBehind, StreettWants, StreettBehind, Bare, TruthWants, TruthBehind, Wants, Behind}
 use Rattle.hoa_standard.specs.Machines.{wantsOpen, wantsInf, wantsFin, wantsTruth, behindClose, behindAnd, behindOr, someWants, someBehind}
 use Rattle.hoa_standard.specs.Formulas as formulas
-use Rattle.hoa_standard.specs.Formulas.{FormulaStep, go, wrong, state, needsInf, needsFin, opensPair, limited, meaningOf, pieceOf, freeStep, formulaStep}
+use Rattle.hoa_standard.specs.Formulas.{go, wrong, state, needsInf, needsFin, opensPair, limited, meaningOf, pieceOf, freeStep, formulaStep}
 use Rattle.hoa_tokens.specs.Token.{Token}
-use Rattle.hoa_standard.specs.inner.Sides.{wants, behind, ifEven, ifTwo, firstStreett, orStreett, orBare, aheadIs, pastIs, firstPair, closedPair, closedInf, streettPast}
+use Rattle.hoa_standard.specs.inner.Sides.{wants, behind, ifEven, ifTwo, firstStreett, orStreett, orBare, aheadIs, pastIs}
 use Rattle.hoa_standard.specs.inner.Sides.{openedTo, infTo, finTo, truthTo, closedTo, andTo, orTo, isLostAhead, isLostPast}
 use Rattle.hoa_turn.specs.inner.Turns as turns
 use Rattle.hoa_turn.specs.inner.Turns.{stageOf, stateOf, turnOf, formula, opensPairAhead, goAhead, goNamed, goPast, turnAt}

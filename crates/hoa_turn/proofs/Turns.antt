@@ -1,11 +1,11 @@
 -- The reader's turn as its functions ask it: the cases that a match leaves over, and tests. Assumes nothing.
 use mathlib.Core.Bool.{Bool, true, false, cond, _&&_}
-use mathlib.Core.List.{List, [], _∷_}
-use mathlib.Core.Path.{_≡_, refl, ap, _∙_}
+use mathlib.Core.List.{[], _∷_}
+use mathlib.Core.Path.{_≡_, refl, ap}
 use Prim.Native.Nat.{ℕ, zero, suc, _+_, _-_, _<_, _≤_}
 use native.Mathlib.Numerals.{add-one}
 use native.Mathlib.Omega.{arith}
-use lib.Dec.{eqb, ltb, leb}
+use lib.Dec.{leb}
 use borrow.Author.Tests.{eq-eqb, ne-eqb, lt-ltb, le-ltb, le-leb, lt-leb}
 use denote.Enum.Declared
 use types.Run.{OneOf, miss}
@@ -15,7 +15,6 @@ use Rattle.hoa_standard.specs.declared.Ahead.{Ahead}
 use Rattle.hoa_standard.specs.declared.Ahead.the-variants as ahead-is
 use Rattle.hoa_standard.specs.declared.Past.{Past}
 use Rattle.hoa_turn.specs.declared.step.Stage.the-variants as stage-is
-use Rattle.hoa_turn.specs.declared.step.Turn.{Turn}
 use Rattle.hoa_turn.specs.declared.step.Turn.the-variants as turn-is
 use Rattle.hoa_standard.proofs.Ahead as ahead
 use Rattle.hoa_standard.proofs.Piece as piece

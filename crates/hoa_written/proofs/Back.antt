@@ -14,17 +14,8 @@ use Rattle.marks.proofs.Cases.{same, below}
 use Rattle.marks.proofs.Laws.{has-none, has-or-not, has-union, has-power, has-fits, same-marks}
 use Rattle.table.specs.Row.{run, Row}
 use Rattle.table.proofs.Rows.{Sorted, Begins, first-begins, row-is, next-begins}
-use Rattle.hoa_tokens.specs.Token.{Token}
-use Rattle.hoa_written.specs.Tokens.{joinedTokens}
 
 -- ---- a machine that takes tokens
-
--- a step for each text leads over all of them
-pub joined-runs : {S R : Type 0} (runs : List Token → S → R) (f : ℕ → List Token → List Token) (at : ℕ → S) (k : ℕ)
-    → ((i : ℕ) → i < k → (ts : List Token) → runs (f i ts) (at i) ≡ runs ts (at (suc i))) → (ts : List Token) → runs (joinedTokens f k ts) (at 0) ≡ runs ts (at k)
-unfolding joinedTokens
-joined-runs runs f at zero h ts = refl
-joined-runs runs f at (suc k) h ts = joined-runs runs f at k (λ i l. h i (omega arith)) (f k ts) ∙ h k (omega arith) ts
 
 -- ---- the marks of an edge
 

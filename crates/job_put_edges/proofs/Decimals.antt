@@ -1,6 +1,6 @@
 -- The decimal digits of a number: there is one, no leading zero, and they spell it. Assumes nothing.
 use mathlib.Core.Path.{_≡_, refl, sym, ap, _∙_}
-use mathlib.Core.Bool.{Bool, true, false, false≢true, cond, _&&_}
+use mathlib.Core.Bool.{Bool, true, false, false≢true, _&&_}
 use mathlib.Core.List.{List, [], _∷_, _++_}
 use mathlib.Core.Option.{Option, some, none}
 use Prim.Native.Nat.{ℕ, zero, suc, _+_, _-_, _*_, _/_, _%_, _≤_, _<_}
@@ -11,7 +11,7 @@ use borrow.Author.Tests.{ne-eqb, le-leb, lt-ltb, le-ltb, ltb-true}
 use Rattle.marks.proofs.Cases.{below}
 use Rattle.digits.specs.Digit.{digit}
 use Rattle.puts.specs.Put.{decimalIn, decimal}
-use Rattle.job_text.specs.Value.{andThen, spelt, mostNumber, atMost, number}
+use Rattle.job_text.specs.Value.{andThen, spelt, mostNumber, number}
 use Rattle.digits.proofs.Digits.{within}
 
 -- ---- the digits of a number

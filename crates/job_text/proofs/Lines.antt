@@ -2,7 +2,7 @@
 use mathlib.Core.Path.{_≡_, refl, sym, ap, subst, _∙_}
 use mathlib.Core.Bool.{Bool, true, false, false≢true}
 use mathlib.Core.List.{List, [], _∷_}
-use mathlib.Core.Option.{Option, some, none}
+use mathlib.Core.Option.{Option, some}
 use Prim.Native.Nat.{ℕ, zero, suc, _+_, _-_, _≤_, _<_, zero-le}
 use native.Mathlib.Omega.{arith}
 use lib.ListN.{length, take, drop, length-take, length-drop}
@@ -17,8 +17,8 @@ use Rattle.job_values.proofs.Columns.{unformed-wrong}
 use Rattle.job_text.specs.Text.{newline, line, lines, same, begins, ahead, FirstAt}
 use Rattle.job_text.specs.declared.line.Span.{Span}
 use Rattle.job_text.specs.declared.line.Fault.{Fault}
-use Rattle.job_text.specs.Job.{Keyed, missing, value, keyed, Cause, absent, unformed, large, ColumnOf, Line, says, fault, formed, asked, found, placed, unlimited, leftOut, perhaps}
-use Rattle.job_text.specs.Given.{noSpan, Standing, SpanAt, faultAt, FaultAs, LineBlamed, Blamed}
+use Rattle.job_text.specs.Job.{Keyed, missing, value, keyed, absent, unformed, large, ColumnOf, says, formed, asked, found, placed, unlimited, leftOut, perhaps}
+use Rattle.job_text.specs.Given.{noSpan, Standing, SpanAt, faultAt, LineBlamed, Blamed}
 use Rattle.job_text.proofs.Text.{lines-cut, lines-uncut, unended, same-length}
 
 drop-take : (k n : ℕ) (xs : List ℕ) → drop k (take n xs) ≡ take (n - k) (drop k xs)

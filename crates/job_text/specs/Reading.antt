@@ -22,7 +22,7 @@ use Rattle.job_text.specs.declared.reader.Edges.{Edges}
 use Rattle.job_text.specs.declared.reader.Edges.the-variants as edges
 use Rattle.job_text.specs.Text.{Lines, lines}
 use Rattle.job_text.specs.Value.{Edge, padTo, padded}
-use Rattle.job_text.specs.Job.{Found, found, refused, Head, mostJobEdges, edgeLines, bodyLines, Outcome, job, fault, readJob, Column}
+use Rattle.job_text.specs.Job.{Found, found, Head, mostJobEdges, edgeLines, bodyLines, Outcome, job, fault, readJob, Column}
 use Rattle.job_text.specs.Given.{faultAt, Blamed}
 
 -- ---- a line's fault

@@ -4,7 +4,7 @@ use mathlib.Core.Bool.{Bool, cond}
 use mathlib.Core.List.{List, [], _∷_}
 use Prim.Native.Nat.{ℕ}
 use lib.Dec.{eqb}
-use lib.ListN.{length, take, drop}
+use lib.ListN.{length, take}
 pub use Rattle.job_values.specs.Bytes.{newline, comma, longerField, FirstAt}
 unfoldable pub use Rattle.job_values.specs.Bytes.{fields, same, ahead}
 

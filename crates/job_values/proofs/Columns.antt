@@ -1,12 +1,12 @@
 -- Where a line stops being of its form, by where its value does; there is one such place, within the line. Assumes nothing.
 use mathlib.Core.Path.{_≡_, refl, sym, ap, subst, _∙_}
-use mathlib.Core.List.{List, [], _∷_, _++_, append-assoc}
+use mathlib.Core.List.{List, [], _∷_, _++_}
 use mathlib.Core.Option.{Option, some}
-use Prim.Native.Nat.{ℕ, suc, _+_, _-_, _≤_, _<_}
+use Prim.Native.Nat.{ℕ, suc, _+_, _-_, _≤_}
 use native.Mathlib.Omega.{arith}
-use lib.ListN.{length, take, drop, length-append}
+use lib.ListN.{length, drop, length-append}
 use lib.Seq.{take-all}
-use Rattle.marks.proofs.Cases.{below, same}
+use Rattle.marks.proofs.Cases.{below}
 use Rattle.table.specs.Row.{part}
 use Rattle.job_values.specs.Bytes.{newline}
 use Rattle.job_values.specs.Number.{number}

@@ -1,21 +1,21 @@
 -- An edge is three fields, each with the byte that ends it; where one of them stops, the edge does. Assumes nothing.
-use mathlib.Core.Path.{_≡_, refl, sym, ap, subst, _∙_}
+use mathlib.Core.Path.{_≡_, refl, sym, ap, _∙_}
 use mathlib.Core.Bool.{Bool, true, false, false≢true, cond}
-use mathlib.Core.List.{List, [], _∷_, _++_, append-assoc, append-nil}
+use mathlib.Core.List.{List, [], _∷_, _++_, append-assoc}
 use mathlib.Core.Option.{Option, some, none}
-use Prim.Native.Nat.{ℕ, suc, _+_, _-_, _*_, _≤_, _<_}
+use Prim.Native.Nat.{ℕ, suc, _+_, _-_, _*_}
 use native.Mathlib.Omega.{arith}
 use lib.Dec.{eqb}
-use lib.ListN.{length, take, drop, length-append, length-drop}
-use lib.Seq.{take-append-seam, take-at, drop-at}
+use lib.ListN.{length, drop, length-append}
+use lib.Seq.{take-append-seam, drop-at}
 use borrow.Author.Tests.{eqb-true}
 use Rattle.table.specs.Row.{part}
 use Rattle.digits.specs.Digit.{digit, hexDigit}
 use Rattle.job_values.specs.Bytes.{newline, comma, fields, longerField, ahead}
 use Rattle.job_values.specs.Number.{andThen, spelt, leadingZero, atMost, mostNumber, number, hexWord}
 use Rattle.job_values.specs.Value.{Edge, edge, edgeOf}
-use Rattle.job_values.specs.Column.{given, Begins}
-use Rattle.job_values.specs.inner.Field.{Within, Ended, Then, Stuck, Got, Lost}
+use Rattle.job_values.specs.Column.{given}
+use Rattle.job_values.specs.inner.Field.{Within, Ended, Then, Got, Lost}
 use Rattle.job_values.specs.inner.Told.{Unformed}
 use Rattle.job_values.proofs.Cut.{byTest, fields-cut, fields-uncut, fields-some}
 use Rattle.job_values.proofs.Sets.{Apart, same-cut, then-apart}
@@ -157,10 +157,6 @@ record Three (fs : List (List ℕ)) : Type 0 where
   is-f : given (number f) ≡ true
   is-t : given (number t) ≡ true
   is-m : given (hexWord m) ≡ true
-
-then-given : {A B : Type 0} (o : Option A) (g : A → Option B) → given (andThen o g) ≡ true → given o ≡ true
-then-given none g h = h
-then-given (some a) g h = refl
 
 three : (fs : List (List ℕ)) → given (edgeOf fs) ≡ true → Three fs
 three [] g = absurd (false≢true g)

@@ -1,7 +1,6 @@
 -- A number with the byte that ends it: where its reader stops, no longer run of bytes begins one. Assumes nothing.
-use mathlib.Core.Path.{_≡_, refl, sym, ap, subst, _∙_}
+use mathlib.Core.Path.{_≡_, refl, sym, ap, _∙_}
 use mathlib.Core.Bool.{true, false≢true}
-use mathlib.Core.Logic.{_⊎_, ⊎-elim}
 use mathlib.Core.List.{List, [], _∷_, _++_, append-assoc}
 use mathlib.Core.Option.{Option, some, none}
 use Prim.Native.Nat.{ℕ, zero, suc, _+_, _-_, _≤_, _<_}
@@ -10,17 +9,17 @@ use native.Mathlib.Omega.{arith}
 use lib.Dec.{eqb}
 use lib.ListN.{length, getD, take, drop, length-append, length-drop, take-append-drop}
 use lib.Seq.{take-suc, getD-drop, drop-cons, drop-drop, length-take-le}
-use borrow.Author.Tests.{eqb-true, eqb-false, eq-eqb, ne-eqb}
+use borrow.Author.Tests.{eqb-true, eqb-false, eq-eqb}
 use Rattle.marks.proofs.Cases.{below}
 use Rattle.table.specs.Row.{part}
-use Rattle.digits.specs.Digit.{digit, hexDigit}
+use Rattle.digits.specs.Digit.{digit}
 use Rattle.job_values.specs.Bytes.{newline, ahead}
-use Rattle.job_values.specs.Number.{spelt, number}
+use Rattle.job_values.specs.Number.{number}
 use Rattle.job_values.specs.Column.{given, Begins}
-use Rattle.job_values.specs.inner.Field.{Within, Ended, Stuck, Got, Lost}
+use Rattle.job_values.specs.inner.Field.{Within, Ended, Stuck, Got}
 use Rattle.job_values.proofs.Cut.{byTest}
-use Rattle.job_values.proofs.Sets.{Apart, longer, same-cut}
-use Rattle.job_values.proofs.Numbers.{part-more, part-none, none-on, none-stop, none-empty, zero-number}
+use Rattle.job_values.proofs.Sets.{longer, same-cut}
+use Rattle.job_values.proofs.Numbers.{none-on, none-stop, none-empty, zero-number}
 
 -- ---- the first of a byte
 

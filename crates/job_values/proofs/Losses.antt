@@ -1,18 +1,16 @@
 -- Values that are not of their form, in a line: where a part of one stops, the whole does. Assumes nothing.
 use mathlib.Core.Path.{_≡_, refl, sym, ap, subst, _∙_}
-use mathlib.Core.Bool.{true}
 use mathlib.Core.List.{List, [], _∷_, _++_, append-assoc}
 use mathlib.Core.Option.{Option, some, none}
-use Prim.Native.Nat.{ℕ, suc, _+_, _-_, _≤_, _<_}
+use Prim.Native.Nat.{ℕ, suc, _+_, _-_}
 use native.Mathlib.Omega.{arith}
 use lib.Dec.{eqb}
 use lib.ListN.{length, getD, take, drop, length-append, length-drop, take-append-drop}
-use lib.Seq.{take-at, getD-append-seam, getD-drop, drop-drop, drop-cons, length-take-le}
+use lib.Seq.{take-at, getD-append-seam, getD-drop, drop-drop, drop-cons}
 use borrow.Author.Tests.{ne-eqb}
 use Rattle.marks.proofs.Cases.{same}
 use Rattle.table.specs.Row.{part}
 use Rattle.job_values.specs.Bytes.{newline, comma, ahead}
-use Rattle.job_values.specs.Column.{given}
 use Rattle.job_values.specs.inner.Field.{Within, Ended, Then, Stuck, Got, Lost}
 use Rattle.job_values.specs.inner.Told.{Unformed}
 use Rattle.job_values.proofs.Cut.{byTest}

@@ -1,8 +1,8 @@
 -- Eight hex digits and the newline byte behind them: one digit after the other. Assumes nothing.
-use mathlib.Core.Path.{_≡_, refl, sym, ap, subst, _∙_}
-use mathlib.Core.Bool.{Bool, true, false, false≢true, cond}
+use mathlib.Core.Path.{_≡_, refl, sym, ap, _∙_}
+use mathlib.Core.Bool.{true, false≢true}
 use mathlib.Core.List.{List, [], _∷_, _++_, append-assoc}
-use mathlib.Core.Option.{Option, some, none}
+use mathlib.Core.Option.{some, none}
 use Prim.Native.Nat.{ℕ, zero, suc, _+_, _-_, _*_, _^_, _≤_, _<_}
 use native.Mathlib.Nat.{lt-of-lt-of-le}
 use native.Mathlib.Omega.{arith}
@@ -16,13 +16,13 @@ use Rattle.table.specs.Row.{part}
 use Rattle.digits.specs.Digit.{hexDigit}
 use Rattle.digits.proofs.Digits.{hex-below}
 use Rattle.job_values.specs.Bytes.{newline}
-use Rattle.job_values.specs.Number.{andThen, spelt, hexWord}
+use Rattle.job_values.specs.Number.{spelt, hexWord}
 use Rattle.job_values.specs.Column.{given, Begins}
-use Rattle.job_values.specs.inner.Field.{Within, Ended, Stuck, Got, Lost}
+use Rattle.job_values.specs.inner.Field.{Within, Ended, Got, Lost}
 use Rattle.job_values.proofs.Cut.{byTest}
 use Rattle.job_values.proofs.Sets.{longer, same-cut}
 use Rattle.job_values.proofs.Numbers.{part-more, part-none, spelt-append, spelt-snoc, spelt-stop}
-use Rattle.job_values.proofs.Fields.{newline-there, no-newline, given-some, given-none}
+use Rattle.job_values.proofs.Fields.{newline-there, no-newline, given-some}
 
 -- ---- how large hex digits can be: four bits each
 

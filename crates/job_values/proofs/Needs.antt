@@ -1,12 +1,12 @@
 -- A list of needs is its fields, each with the byte that ends it; where one of them stops, the list does. Assumes nothing.
 use mathlib.Core.Path.{_≡_, refl, sym, ap, subst, _∙_}
-use mathlib.Core.Bool.{Bool, true, false, false≢true, cond}
-use mathlib.Core.List.{List, [], _∷_, _++_, append-assoc, append-nil}
+use mathlib.Core.Bool.{Bool, true, false, false≢true}
+use mathlib.Core.List.{List, [], _∷_, _++_, append-assoc}
 use mathlib.Core.Option.{Option, some, none}
 use Prim.Native.Nat.{ℕ, zero, suc, _+_, _-_, _≤_, _<_, zero-le}
 use native.Mathlib.Omega.{arith}
 use lib.ListN.{length, set, take, drop, replicate, length-append, length-drop, take-append-drop}
-use lib.Seq.{take-append-add, set-append-seam, drop-cons}
+use lib.Seq.{take-append-add, drop-cons}
 use borrow.Author.Tests.{ltb-true}
 use Rattle.marks.proofs.Cases.{below}
 use Rattle.table.specs.Refusal.{mostRabin}
@@ -15,7 +15,7 @@ use Rattle.job_values.specs.declared.value.Kind.{Kind}
 use Rattle.job_values.specs.declared.value.Kind.the-variants.{Buchi, Streett, Rabin}
 use Rattle.job_values.specs.Bytes.{newline, comma, fields, same, ahead}
 use Rattle.job_values.specs.Number.{andThen, number}
-use Rattle.job_values.specs.Value.{padTo, padded, eight, listed, dash, hasNeeds, mostCount, needs}
+use Rattle.job_values.specs.Value.{padded, eight, listed, dash, hasNeeds, mostCount, needs}
 use Rattle.job_values.specs.Column.{given}
 use Rattle.job_values.specs.inner.Field.{Within, Ended, Then, Got, Lost, agree}
 use Rattle.job_values.specs.declared.value.NeedList.{NeedList}

@@ -1,17 +1,17 @@
 -- Numbers: digits one after the other, and what cannot begin a number. Assumes nothing.
-use mathlib.Core.Path.{_≡_, refl, sym, ap, subst, _∙_}
+use mathlib.Core.Path.{_≡_, refl, _∙_}
 use mathlib.Core.Bool.{Bool, true, false, false≢true, cond, _&&_}
 use mathlib.Core.List.{List, [], _∷_, _++_}
 use mathlib.Core.Option.{Option, some, none}
-use Prim.Native.Nat.{ℕ, zero, suc, _+_, _-_, _*_, _≤_, _<_}
+use Prim.Native.Nat.{ℕ, suc, _+_, _-_, _*_, _≤_, _<_}
 use native.Mathlib.Numerals.{add-one}
 use native.Mathlib.Omega.{arith}
 use lib.Dec.{leb, ltb, eqb}
-use lib.ListN.{length, getD, take, drop, drop-of-length-le, length-append, length-drop, List·getD-append}
+use lib.ListN.{length, getD, drop, drop-of-length-le, length-append, length-drop, List·getD-append}
 use lib.Seq.{take-suc, getD-drop, drop-cons}
 use borrow.Author.Tests.{eq-eqb, ne-eqb, le-leb, lt-leb, leb-false, lt-ltb, ltb-true, eqb-true}
 use Rattle.table.specs.Row.{part}
-use Rattle.digits.specs.Digit.{digit, hexDigit}
+use Rattle.digits.specs.Digit.{digit}
 use Rattle.job_values.proofs.Cut.{byTest}
 use Rattle.job_values.specs.Number.{andThen, spelt, mostNumber, leadingZero, atMost, number}
 

@@ -1,7 +1,6 @@
 -- What the public contracts settle: any two results that they allow for one input are the same.
 -- Assumes nothing.
 use mathlib.Core.Path.{_≡_, refl, sym, ap, _∙_}
-use mathlib.Core.Option.{some, none}
 use Prim.Native.Nat.{ℕ}
 use native.Mathlib.Omega.{arith}
 use Rattle.job_values.specs.declared.number.Number.{Number}

@@ -1,17 +1,16 @@
 -- The longest run of bytes that can begin a number: one digit after the other. Assumes nothing.
-use mathlib.Core.Path.{_≡_, refl, sym, ap, _∙_}
+use mathlib.Core.Path.{_≡_, sym, ap, _∙_}
 use mathlib.Core.Logic.{_⊎_, inl, inr}
 use mathlib.Core.List.{List, [], _∷_, _++_}
 use mathlib.Core.Option.{some, none}
 use Prim.Native.Nat.{ℕ, suc, _+_, _-_, _*_, _≤_, _<_, zero-le}
 use native.Mathlib.Omega.{arith}
-use lib.ListN.{length, getD, take, drop, length-drop}
+use lib.ListN.{length, getD, drop, length-drop}
 use lib.Seq.{getD-take, getD-drop, length-take-le}
 use borrow.Author.Tests.{lt-leb}
 use Rattle.marks.proofs.Cases.{same}
 use Rattle.table.specs.Row.{part}
 use Rattle.digits.specs.Digit.{digit}
-use Rattle.job_values.specs.declared.field.Run.{Run}
 use Rattle.job_values.specs.Number.{spelt, mostNumber, number}
 use Rattle.job_values.specs.inner.Field.{Within, RunAt}
 use Rattle.job_values.proofs.Numbers.{part-more, part-none, spelt-snoc, spelt-stop, none-spelt, zero-number, none-zero, number-spelt}

@@ -1,10 +1,10 @@
 -- Values that are words: where one stops, and which words a form has. Assumes nothing.
 use mathlib.Core.Path.{_≡_, refl, sym, ap, subst, _∙_}
-use mathlib.Core.Bool.{Bool, true, false, false≢true, cond, _&&_}
+use mathlib.Core.Bool.{Bool, true, false, false≢true, cond}
 use mathlib.Core.Logic.{_⊎_, inl, inr, ⊎-elim}
 use mathlib.Core.List.{List, [], _∷_, _++_}
 use mathlib.Core.Option.{Option, some, none}
-use Prim.Native.Nat.{ℕ, suc, _+_, _-_, _≤_, _<_}
+use Prim.Native.Nat.{ℕ, suc, _+_, _-_, _≤_}
 use native.Mathlib.Omega.{arith}
 use lib.Dec.{eqb}
 use lib.ListN.{length, take, drop, length-append}
@@ -15,7 +15,7 @@ use Rattle.job_values.specs.declared.value.Kind.the-variants.{Buchi, Str
 use Rattle.job_values.specs.Bytes.{newline, ahead, same}
 use Rattle.job_values.specs.Value.{textForm, kind, buchi, streett, rabin, end as endWord, job}
 use Rattle.job_values.specs.Column.{given}
-use Rattle.job_values.specs.inner.Field.{Within, Ended, Stuck, Lost, agree}
+use Rattle.job_values.specs.inner.Field.{Within, Ended, Stuck, agree}
 use Rattle.job_values.specs.inner.Told.{Unformed, Further}
 use Rattle.job_values.proofs.Cut.{byTest}
 use Rattle.job_values.proofs.Sets.{stuck-grow}

@@ -1,11 +1,11 @@
 -- The form of each value of the job text, and what it says (docs/RULES.md, "The job text and the printed answer"):
 -- `none` where the bytes are not of the form. Assumes nothing.
-use mathlib.Core.Bool.{Bool, false, cond, _&&_}
+use mathlib.Core.Bool.{Bool, false, cond}
 use mathlib.Core.List.{List, [], _∷_, _++_}
 use mathlib.Core.Option.{Option, some, none}
-use Prim.Native.Nat.{ℕ, zero, suc, _+_, _-_, _*_}
-use lib.Dec.{leb, ltb, eqb}
-use lib.ListN.{length, getD, replicate}
+use Prim.Native.Nat.{ℕ, zero, suc, _+_, _-_}
+use lib.Dec.{ltb}
+use lib.ListN.{length, replicate}
 use Rattle.marks.specs.Mark.{width}
 use Rattle.job_values.specs.Number.{andThen, number, hexWord}
 use Rattle.table.specs.declared.Acceptance.{Acceptance}

@@ -1,16 +1,15 @@
 -- Lines and fields of a text that is put together, and what a line says. Assumes nothing.
-use mathlib.Core.Path.{_≡_, refl, sym, ap, _∙_}
+use mathlib.Core.Path.{_≡_, refl, ap, _∙_}
 use mathlib.Core.Bool.{Bool, true, false}
 use mathlib.Core.List.{List, [], _∷_, _++_, append-assoc}
 use mathlib.Core.Option.{Option, some}
-use Prim.Native.Nat.{ℕ, _+_, _<_}
+use Prim.Native.Nat.{ℕ, _+_}
 use native.Mathlib.Omega.{arith}
-use lib.Dec.{eqb}
-use lib.ListN.{length, take, drop}
+use lib.ListN.{length, drop}
 use lib.Seq.{take-at}
 use borrow.Author.Tests.{eq-eqb, ne-eqb}
 use Rattle.job_text.specs.Text.{newline, comma, Lines, line, lines, longer, fields, longerField, same, begins}
-use Rattle.job_text.specs.Job.{Keyed, value, keyed, says, asked, found, Found, Reader, Line, goOn, next, placed, perhaps, leftOut, unlimited}
+use Rattle.job_text.specs.Job.{Keyed, value, keyed, says, asked, found, Found, Reader, goOn, next, placed, perhaps, leftOut, unlimited}
 use Rattle.job_put_edges.specs.Edges.{shown}
 use Rattle.job_put_edges.proofs.Decimals.{Over}
 

@@ -1,9 +1,9 @@
 -- Reading a text that was written gives the table back (`reads-back`): line by line, each says what it was written for. Assumes nothing.
 use mathlib.Core.Path.{_≡_, refl, sym, ap, _∙_}
-use mathlib.Core.Bool.{Bool, true, false, cond}
+use mathlib.Core.Bool.{Bool, true, false}
 use mathlib.Core.List.{List, [], _∷_, _++_, append-assoc, map}
 use mathlib.Core.Option.{some}
-use Prim.Native.Nat.{ℕ, zero, suc, _+_, _-_, _*_, _^_, _≤_, _<_}
+use Prim.Native.Nat.{ℕ, zero, suc, _+_, _-_, _^_, _≤_, _<_}
 use native.Mathlib.Nat.{add-zero}
 use native.Mathlib.Omega.{arith}
 use lib.ListN.{length, getD, take, drop, drop-of-length-le}
@@ -13,7 +13,7 @@ use Rattle.marks.specs.Mark.{width}
 use Rattle.puts.specs.Put.{decimalIn, decimal, joined}
 use Rattle.job_values.specs.declared.value.Form.the-variants as form-is
 use Rattle.job_values.specs.declared.value.Kind.the-variants as kind-is
-use Rattle.job_text.specs.Text.{newline, comma, Lines, done, line, lines, same}
+use Rattle.job_text.specs.Text.{newline, comma, done, lines, same}
 use Rattle.job_text.specs.Value.{number, textForm, kind, needs, Edge, edge, end, buchi, dash, job, padded, mostNumber}
 use Rattle.job_text.specs.Job.{form=, states=, start=, kind=, count=, need=, edges=, edge=, end=}
 use Rattle.table.specs.declared.Acceptance.the-variants.{Buchi}

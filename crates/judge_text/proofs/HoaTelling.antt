@@ -1,7 +1,7 @@
 -- From what the reader of the Hanoi format, the judge and the printer give to the whole promise. A job that is read keeps a job's limits (`lawful`), so the
 -- tables are long enough and 11 never comes out; a refusal's place lies within the text (`fault-within`). Assumes nothing.
-use mathlib.Core.Path.{_≡_, refl, sym, ap, _∙_, subst}
-use mathlib.Core.Bool.{true, cond}
+use mathlib.Core.Path.{_≡_, refl, sym, ap, _∙_}
+use mathlib.Core.Bool.{true}
 use mathlib.Core.List.{List, map}
 use Prim.Native.Nat.{ℕ, _-_, _≤_, _<_}
 use native.Mathlib.Omega.{arith}
@@ -13,10 +13,9 @@ use Rattle.job_text.specs.Job.{mostJobStates, mostJobEdges, Job, Outcome, job, 
 use Rattle.answer_text.specs.Printed.{refusedText, mostPrinted}
 use Rattle.hoa_rows.specs.Lent.{fits}
 use Rattle.hoa.specs.declared.Hoa.{Hoa}
-use Rattle.hoa.specs.declared.HoaFinding.{HoaFinding}
 use Rattle.hoa.specs.declared.HoaFinding.the-variants.{Read, Refused}
 use Rattle.hoa.specs.Reading.{readHoa}
-use Rattle.hoa.specs.Returned.{refusedHoa, readOf, returned, cellsBy, ReadInto}
+use Rattle.hoa.specs.Returned.{refusedHoa, readOf, ReadInto}
 use Rattle.hoa.proofs.Lawful.{Lawful, lawful}
 use Rattle.hoa.proofs.Places.{fault-within}
 use Rattle.job_text.specs.Asked.{jobTable}

@@ -1,10 +1,10 @@
 -- From what the reader, the judge and the printer give to the whole promise. A text is read as its outcome says; so each lemma goes by the outcome,
 -- and the reading names the case. Assumes nothing.
 use mathlib.Core.Path.{_≡_, refl, sym, ap, _∙_, subst}
-use mathlib.Core.List.{List, _++_, map}
+use mathlib.Core.List.{List, map}
 use Prim.Native.Nat.{ℕ, _-_, _^_, _≤_, _<_}
 use native.Mathlib.Omega.{arith}
-use lib.ListN.{length, take, drop, replicate, length-append, length-map, length-take}
+use lib.ListN.{length, take, drop, replicate, length-map, length-take}
 use Rattle.table.specs.declared.Acceptance.{Acceptance}
 use Rattle.table.specs.declared.Answer.{Answer}
 use Rattle.table.specs.declared.Finding.{Finding}

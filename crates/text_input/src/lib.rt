@@ -1,7 +1,8 @@
 // Standard input as a text: read until the lent buffer is full or the input ends. For the programs, which hand the text on to a function on bytes.
 use libc::STDIN_FILENO;
 ghost use Prim.Native.Nat.{_≤_, _-_};
-ghost use lib.ListN.{length};
+ghost use mathlib.Core.Path.{_≡_};
+ghost use lib.ListN.{length, take};
 ghost use Rattle.text_input.specs.Input.{Within};
 
 // What reading comes to: so many bytes, none at the end of the input; or a read that failed.
@@ -10,10 +11,11 @@ pub enum Input {
     Failed,
 }
 
-// One read, into the text from `at` on.
+// One read, into the text from `at` on: what stands before stays.
 fn read_more(text: &mut [u8], at: usize) -> Input
     requires { ⌜ at ≤ length (now text) ⌝ }
     ensures { λ r. ⌜ Within (length (now (text .entry)) - at) r ⌝ }
+    ensures { λ _. ⌜ take at (now (text .exit)) ≡ take at (now (text .entry)) ⌝ }
 {
     let got = libc::read(STDIN_FILENO, &mut text[at..]);
     if got < 0 {

@@ -1,14 +1,13 @@
 -- From what the reader, the translation, the writer and the printer give to the whole promise. Row 11 never comes out: the translation is lent enough for
 -- every table that row 10 lets pass, and the longest text fits; and rows 1 to 7 pass every translated table (`faithful`). Assumes nothing.
 use mathlib.Core.Path.{_≡_, refl, sym, ap, _∙_, subst}
-use mathlib.Core.Bool.{Bool, true, false, cond, _||_}
-use mathlib.Core.List.{List, [], map}
+use mathlib.Core.Bool.{Bool, true, false, cond}
+use mathlib.Core.List.{List, []}
 use Prim.Native.Nat.{ℕ, _-_, _≤_}
 use native.Mathlib.Omega.{arith}
 use lib.Dec.{ltb}
 use lib.ListN.{length, take, drop, replicate, length-append}
 use borrow.Author.Tests.{le-ltb, ltb-false}
-use Rattle.table.specs.declared.Acceptance.{Acceptance}
 use Rattle.table.specs.declared.Acceptance.the-variants.{Buchi, Streett, Rabin}
 use Rattle.table.specs.declared.Finding.{Finding}
 use Rattle.table.specs.declared.Finding.the-variants.{Sound, Refused}
@@ -18,13 +17,12 @@ use Rattle.table.proofs.Sound.{either-false}
 use Rattle.one_mark.specs.declared.Translation.{Translation}
 use Rattle.one_mark.specs.declared.Translation.the-variants as translation
 use Rattle.climbing.specs.Translated.{translated}
-use Rattle.one_mark.specs.Outcome.{large, short, unless, answer, statesOf, edgesOf, startOf, numberOf, Outcome}
+use Rattle.one_mark.specs.Outcome.{large, short, unless, answer, edgesOf, numberOf, Outcome}
 use Rattle.one_mark.proofs.Answers.{granted}
 use Rattle.one_mark.proofs.Faithful.{faithful, outputs-hold}
 use Rattle.job_text.specs.declared.reader.Reading.{Reading}
-use Rattle.job_text.specs.Value.{Edge, padTo}
-use Rattle.job_text.specs.Job.{mostJobEdges, Job, Outcome as Text, job, fault, readJob}
-use Rattle.job_text.specs.Asked.{jobTable}
+use Rattle.job_text.specs.Value.{Edge}
+use Rattle.job_text.specs.Job.{Outcome as Text, job, fault, readJob}
 use Rattle.job_text.specs.Reading.{readingOf, cellsOf, Read}
 use Rattle.job_text.proofs.Tables.{unlike, part-is}
 use Rattle.answer_text.specs.declared.Printed.{Printed}

@@ -11,7 +11,7 @@ use Rattle.table.specs.Table.{Table}
 use Rattle.table.specs.Refusal.{refusal}
 use Rattle.climbing.specs.Translated.{translated}
 use Rattle.one_mark.specs.Outcome.{large}
-use Rattle.job_text.specs.Job.{Job, Outcome, job, fault, readJob, Column}
+use Rattle.job_text.specs.Job.{Outcome, job, fault, readJob, Column}
 use Rattle.job_text.specs.Asked.{jobTable}
 use Rattle.answer_text.specs.Printed.{refusedText}
 use Rattle.writing.specs.Writing.{orElse, Stands}

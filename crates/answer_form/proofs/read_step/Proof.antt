@@ -1,6 +1,5 @@
 -- `read_step` meets its contract: `stop`, or a number that is not 65535. Assumes nothing.
 use mathlib.Core.Path.{sym, ap, _∙_}
-use borrow.Author.Tests.{eq-eqb, ne-eqb}
 use denote.Ref.{now}
 use Rattle.job_values.specs.Given.{numberGiven}
 use Rattle.answer_form.proofs.Forms.{step-waits, step-number, step-none, step-digits}

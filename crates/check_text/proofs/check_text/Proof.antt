@@ -7,7 +7,6 @@ use Rattle.check_text.specs.Replied.{mostChecked}
 use Rattle.check_text.proofs.Splits.{answer-few}
 use Rattle.check_text.proofs.Positions.{checks-slight}
 use Rattle.check_text.proofs.Replies.{replied}
-use native.Mathlib.Omega.{arith}
 use borrow.Author.Needs.{needs}
 use Rattle.check_text.proofs.check_text.Statement.{statement}
 use Rattle.check_text.proofs.check_text.Tie as tie

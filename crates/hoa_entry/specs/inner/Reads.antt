@@ -9,7 +9,7 @@ use Rattle.job_text.specs.Job.{mostJobStates, mostJobEdges}
 use Rattle.hoa_tokens.specs.Token.{Token}
 use Rattle.hoa_tokens.specs.Stream.{Placed, placed, tokensAt}
 use Rattle.hoa_step.specs.declared.Given.{Given}
-use Rattle.hoa_step.specs.Machine.{Step, End, go, done, wrong, doneAt, wrongAt, run}
+use Rattle.hoa_step.specs.Machine.{End, go, done, wrong, doneAt, wrongAt, run}
 use Rattle.hoa_step.specs.Wanted.{intFault, Faulty}
 use Rattle.hoa_label.specs.Labels.{labelBegin}
 use Rattle.hoa_entry.specs.declared.Limits.{Limits}

@@ -1,7 +1,7 @@
 -- 41 never falls late: what is admitted is the beginning of a formula of std(c) (`never-late`); and short is fewer than c atoms (`short-few`).
 -- Each state of a machine that goes on is completed to the c-th atom, and what every token keeps (`Fair`, `Deep`) says that there is room for that.
 -- Assumes nothing.
-use mathlib.Core.Bool.{Bool, true, false, cond, _&&_, _||_}
+use mathlib.Core.Bool.{Bool, true, false, cond, _||_}
 use mathlib.Core.List.{List, [], _∷_, _++_}
 use mathlib.Core.Path.{_≡_, refl, sym, ap, subst, _∙_}
 use mathlib.Core.Logic.{_⊎_, inl, inr}
@@ -13,14 +13,14 @@ use borrow.Author.Tests.{eqb-true, eqb-false, ltb-true, ltb-false}
 use Rattle.hoa_tokens.specs.declared.Word.the-variants as word-is
 use Rattle.hoa_tokens.specs.Token.{Token, word}
 use Rattle.hoa_standard.specs.declared.Piece.{Piece}
-use Rattle.hoa_standard.specs.Standard.{left, right, both, either, atom, Infs, Infop, infsEnd, infopEnd, infsText}
-use Rattle.hoa_standard.specs.Standard.{Rabin, rabinText, Single, Spair, Streett, Strop, streettText, stropText, stropEnd, spairText, singleText, Truth, truthText, Std}
+use Rattle.hoa_standard.specs.Standard.{right, both, either, atom, Infs, Infop, infsEnd, infopEnd, infsText}
+use Rattle.hoa_standard.specs.Standard.{rabinText, Single, Streett, Strop, streettText, stropText, stropEnd, spairText, singleText, Truth, truthText, Std}
 use Rattle.hoa_standard.specs.Standard.{stdText, IsStd}
 use Rattle.hoa_standard.specs.Machines.{Buchi, RabinWants, RabinBehind, StreettWants, StreettBehind, Bare, TruthWants, TruthBehind, Wants, Behind, begin}
 use Rattle.hoa_standard.specs.Machines.{streettOpen, streettInf, streettFin, streettClose, streettAnd, streettOr, bareOpen, bareInf, bareFin, bareClose, bareOr, truthOpen}
 use Rattle.hoa_standard.specs.Machines.{truthIs, truthClose}
 use Rattle.hoa_standard.specs.Machines.{buchiOpen, buchiClose, rabinOpen, rabinInf, rabinFin, rabinClose, rabinAnd, rabinOr}
-use Rattle.hoa_standard.specs.Machines.{wantsOpen, wantsInf, wantsFin, wantsTruth, behindClose, behindAnd, behindOr, someWants, someBehind}
+use Rattle.hoa_standard.specs.Machines.{someWants, someBehind}
 use Rattle.hoa_standard.specs.Machines.{buchiLive, rabinWanting, rabinLive, streettWanting, streettLive, bareLive, truthWanting, truthLive}
 use Rattle.hoa_standard.specs.Formulas.{FormulaState, go, Stage, operand, named, bracket, number, after, pieceOf, formulaBegin}
 use Rattle.hoa_standard.specs.Formulas.{truthDone, byDone, meaningOf}

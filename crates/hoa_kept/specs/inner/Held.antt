@@ -1,9 +1,7 @@
 -- How the rows so far are held in numbers and tables, and what a row and an edge change. Assumes nothing.
 use mathlib.Core.Path.{_≡_}
-use mathlib.Core.Bool.{Bool, true, false, cond}
-use mathlib.Core.List.{List, [], _∷_, map}
+use mathlib.Core.List.{List, _∷_, map}
 use Prim.Native.Nat.{ℕ, zero, suc, _+_, _-_, _≤_, _<_, max}
-use lib.Dec.{ltb}
 use lib.ListN.{length, getD, set, take, drop, replicate}
 use Rattle.job_text.specs.Value.{Edge, padTo}
 use Rattle.job_text.specs.Job.{mostJobStates, mostJobEdges}

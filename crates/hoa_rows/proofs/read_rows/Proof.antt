@@ -4,7 +4,6 @@ use denote.Ref.{now}
 use Rattle.hoa_rows.specs.Lent.{rowsEnd}
 use Rattle.hoa_rows.specs.inner.Turns.{Ended}
 use Rattle.hoa_rows.proofs.Handing.{handing, rows-refused, rows-handed}
-use native.Mathlib.Omega.{arith}
 use borrow.Author.Needs.{needs}
 use Rattle.hoa_rows.proofs.read_rows.Statement.{statement}
 use Rattle.hoa_rows.proofs.read_rows.Tie as tie

@@ -1,8 +1,7 @@
 -- One token as the reader takes it (src/step.rt): what its state stands for, and its turn by cases. Assumes nothing.
 use mathlib.Core.Bool.{Bool, true, false, cond, _&&_}
-use mathlib.Core.List.{List, [], _∷_}
-use Prim.Native.Nat.{ℕ, zero, suc, _/_, _≤_, _<_}
-use mathlib.Core.Path.{_≡_}
+use mathlib.Core.List.{List}
+use Prim.Native.Nat.{ℕ, zero, suc, _≤_}
 use lib.Dec.{eqb, ltb, leb}
 use Rattle.table.specs.declared.Acceptance.the-variants as acceptance
 use Rattle.hoa_standard.specs.declared.Piece.{Piece}
@@ -16,9 +15,9 @@ use Rattle.hoa_turn.specs.declared.step.Stage.the-variants as stage-is
 use Rattle.hoa_turn.specs.declared.step.Formula.{Formula}
 use Rattle.hoa_turn.specs.declared.step.Turn.{Turn}
 use Rattle.hoa_turn.specs.declared.step.Turn.the-variants as turn-is
-use Rattle.hoa_standard.specs.Standard.{FormulaMeaning, standard, short, mostPairs, noNeeds, rabinMeaning}
+use Rattle.hoa_standard.specs.Standard.{FormulaMeaning, mostPairs}
 use Rattle.hoa_standard.specs.Formulas as formulas
-use Rattle.hoa_standard.specs.Formulas.{FormulaState, FormulaStep, astray}
+use Rattle.hoa_standard.specs.Formulas.{FormulaState, FormulaStep}
 use Rattle.hoa_standard.specs.inner.Sides.{aheadIs, pastIs, aheadWithin, pastWithin, openedTo, infTo, finTo, truthTo, closedTo, andTo, orTo, isLostAhead, isLostPast}
 
 -- ---- what the reader's state stands for

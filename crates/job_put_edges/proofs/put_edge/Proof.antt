@@ -1,6 +1,5 @@
 -- `edges::put_edge` meets its contract: two states, the digits and the newline byte, one after another. Assumes nothing.
 use Rattle.puts.proofs.Few.{few-word, few-both}
-use Rattle.job_put_edges.specs.Edges.{edgeText}
 use Rattle.job_put_edges.proofs.Pieces.{edge-pieces}
 use native.Mathlib.Omega.{arith}
 use borrow.Author.Needs.{needs}

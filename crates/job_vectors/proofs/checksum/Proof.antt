@@ -1,7 +1,6 @@
 -- `checksum` is safe and ends: e counts up to the tables' length. Assumes nothing.
-use Prim.Native.Nat.{ℕ, _-_, _≤_, _<_}
+use Prim.Native.Nat.{_-_, _≤_}
 use borrow.Author.Needs.{needs}
-use native.Mathlib.Omega.{arith}
 use Rattle.job_vectors.proofs.checksum.Statement.{statement}
 use Rattle.job_vectors.proofs.checksum.Tie as tie
 

@@ -1,7 +1,6 @@
 -- `main` is safe and ends: the texts are counted. Assumes nothing.
-use Prim.Native.Nat.{ℕ, _-_}
+use Prim.Native.Nat.{_-_}
 use borrow.Author.Needs.{needs}
-use native.Mathlib.Omega.{arith}
 use Rattle.job_vectors.proofs.main.Statement.{statement}
 use Rattle.job_vectors.proofs.main.Tie as tie
 

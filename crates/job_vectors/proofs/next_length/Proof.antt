@@ -1,8 +1,7 @@
 -- `next_length` is safe and ends: it reads seven bytes at most. Assumes nothing.
 use mathlib.Core.Path.{_≡_}
-use Prim.Native.Nat.{ℕ, _-_, _<_}
+use Prim.Native.Nat.{_-_, _<_}
 use borrow.Author.Needs.{needs}
-use native.Mathlib.Omega.{arith}
 use Rattle.job_vectors.proofs.next_length.Statement.{statement}
 use Rattle.job_vectors.proofs.next_length.Tie as tie
 

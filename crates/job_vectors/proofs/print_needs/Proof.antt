@@ -1,7 +1,6 @@
 -- `print_needs` is safe and ends: i counts up to the eight needs. Assumes nothing.
-use Prim.Native.Nat.{ℕ, _-_, _≤_, _<_}
+use Prim.Native.Nat.{_-_, _≤_}
 use borrow.Author.Needs.{needs}
-use native.Mathlib.Omega.{arith}
 use Rattle.job_vectors.proofs.print_needs.Statement.{statement}
 use Rattle.job_vectors.proofs.print_needs.Tie as tie
 

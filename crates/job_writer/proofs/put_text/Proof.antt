@@ -1,7 +1,6 @@
 -- `put_text` meets its contract: its parts, one after another. Assumes nothing.
 use Rattle.puts.proofs.Puts.{put-both}
 use Rattle.job_writer.specs.Written.{jobText}
-use native.Mathlib.Omega.{arith}
 use borrow.Author.Needs.{needs}
 use Rattle.job_writer.proofs.put_text.Statement.{statement}
 use Rattle.job_writer.proofs.put_text.Tie as tie

@@ -43,7 +43,7 @@ add-at c =
     let at-more = c .before .before in
     let at-read = at-more .before .before .before .before in
     let at-loop = at-read .before .before .before in
-    let within = few (length (at-loop .loop .text) - at-loop .loop .at) (at-read .read-more .ensures) (at-more .more .given .1) in
+    let within = few (length (at-loop .loop .text) - at-loop .loop .at) (at-read .read-more .ensures .0) (at-more .more .given .1) in
     search needs
 
 loop-less : tie.Need-loop-less Inv-loop μ-loop
@@ -54,7 +54,7 @@ loop-again c =
     let at-more = c .before .before in
     let at-read = at-more .before .before .before .before in
     let at-loop = at-read .before .before .before in
-    let within = few (length (at-loop .loop .text) - at-loop .loop .at) (at-read .read-more .ensures) (at-more .more .given .1) in
+    let within = few (length (at-loop .loop .text) - at-loop .loop .at) (at-read .read-more .ensures .0) (at-more .more .given .1) in
     search needs
 
 same-length-3 : tie.Need-same-length-3 Inv-loop μ-loop

@@ -1,5 +1,4 @@
 -- `condition::meets` meets its contract: kind by kind. Assumes nothing.
-use mathlib.Core.Path.{sym}
 use Rattle.answer_check.proofs.Conditions.{by-kind, still, streett-few, buchi-meets}
 use borrow.Author.Needs.{needs}
 use Rattle.answer_check.proofs.condition.meets.Statement.{statement}

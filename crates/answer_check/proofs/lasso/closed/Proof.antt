@@ -1,6 +1,4 @@
 -- `lasso::closed` meets its contract: no edge, an end elsewhere, or the knot again. Assumes nothing.
-use mathlib.Core.Path.{_≡_, refl, sym, ap, _∙_, subst}
-use mathlib.Core.Logic.{inr}
 use Rattle.answer_check.proofs.Lassos.{turn-empty, turn-open, turn-closed}
 use Rattle.answer_check.proofs.lasso.closed.Statement.{statement}
 use Rattle.answer_check.proofs.lasso.closed.Tie as tie

@@ -1,7 +1,6 @@
 -- `edge::read_edge_sig` meets its contract: `&` is refused, `{` opens a sig, and any other token does there what it does behind an edge. Assumes nothing.
 use denote.Ref.{now}
 use Rattle.hoa_entry.proofs.Reading.{more-joined, more-goes, more-stays}
-use native.Mathlib.Omega.{arith}
 use borrow.Author.Needs.{needs}
 use Rattle.hoa_entry.proofs.edge.read_edge_sig.Statement.{statement}
 use Rattle.hoa_entry.proofs.edge.read_edge_sig.Tie as tie

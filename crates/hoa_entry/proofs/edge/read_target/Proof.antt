@@ -2,7 +2,6 @@
 use mathlib.Core.Path.{sym, _∙_}
 use denote.Ref.{now}
 use Rattle.hoa_entry.proofs.Reading.{target-refused, target-above, target-large, target-there}
-use native.Mathlib.Omega.{arith}
 use borrow.Author.Needs.{needs}
 use Rattle.hoa_entry.proofs.edge.read_target.Statement.{statement}
 use Rattle.hoa_entry.proofs.edge.read_target.Tie as tie

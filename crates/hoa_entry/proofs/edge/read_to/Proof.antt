@@ -2,7 +2,6 @@
 use denote.Ref.{now}
 use Rattle.hoa_entry.proofs.Reading.{to-refused, to-sig-refused, to-there}
 use borrow.Author.Needs.{needs}
-use native.Mathlib.Omega.{arith}
 use Rattle.hoa_entry.proofs.edge.read_to.Statement.{statement}
 use Rattle.hoa_entry.proofs.edge.read_to.Tie as tie
 

@@ -1,5 +1,4 @@
 -- `row::not_below` meets its contract by the number that was given. Assumes nothing.
-use native.Mathlib.Omega.{arith}
 use borrow.Author.Needs.{needs}
 use Rattle.hoa_entry.proofs.row.not_below.Statement.{statement}
 use Rattle.hoa_entry.proofs.row.not_below.Tie as tie

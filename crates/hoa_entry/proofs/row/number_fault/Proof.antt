@@ -1,7 +1,6 @@
 -- `row::number_fault` meets its contract: `[` is a label, and every other token has the number that it had. Assumes nothing.
 use denote.Ref.{now}
 use Rattle.hoa_entry.proofs.Reading.{number-label, number-missing}
-use native.Mathlib.Omega.{arith}
 use borrow.Author.Needs.{needs}
 use Rattle.hoa_entry.proofs.row.number_fault.Statement.{statement}
 use Rattle.hoa_entry.proofs.row.number_fault.Tie as tie

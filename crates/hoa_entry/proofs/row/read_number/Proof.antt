@@ -2,7 +2,6 @@
 use mathlib.Core.Path.{sym, _∙_}
 use denote.Ref.{now}
 use Rattle.hoa_entry.proofs.Reading.{number-refused, number-above, number-large, number-twice, number-new}
-use native.Mathlib.Omega.{arith}
 use borrow.Author.Needs.{needs}
 use Rattle.hoa_entry.proofs.row.read_number.Statement.{statement}
 use Rattle.hoa_entry.proofs.row.read_number.Tie as tie

@@ -2,7 +2,6 @@
 use denote.Ref.{now}
 use Rattle.hoa_entry.proofs.Reading.{row-refused, row-sig-refused, row-there}
 use borrow.Author.Needs.{needs}
-use native.Mathlib.Omega.{arith}
 use Rattle.hoa_entry.proofs.row.read_row.Statement.{statement}
 use Rattle.hoa_entry.proofs.row.read_row.Tie as tie
 

@@ -1,7 +1,6 @@
 -- `row::read_row_sig` meets its contract: `{` opens a sig, and any other token does there what it does behind a row. Assumes nothing.
 use denote.Ref.{now}
 use Rattle.hoa_entry.proofs.Reading.{row-sig-goes, row-sig-stays}
-use native.Mathlib.Omega.{arith}
 use borrow.Author.Needs.{needs}
 use Rattle.hoa_entry.proofs.row.read_row_sig.Statement.{statement}
 use Rattle.hoa_entry.proofs.row.read_row_sig.Tie as tie

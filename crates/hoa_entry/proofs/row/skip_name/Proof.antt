@@ -1,7 +1,6 @@
 -- `row::skip_name` meets its contract: a name leads on, and any other token does there what it does behind a name. Assumes nothing.
 use denote.Ref.{now}
 use Rattle.hoa_entry.proofs.Reading.{name-goes, name-stays}
-use native.Mathlib.Omega.{arith}
 use borrow.Author.Needs.{needs}
 use Rattle.hoa_entry.proofs.row.skip_name.Statement.{statement}
 use Rattle.hoa_entry.proofs.row.skip_name.Tie as tie

@@ -1,6 +1,5 @@
 -- `sig::sig_sign` meets its contract: `}` is told apart, and the others are one lemma. Assumes nothing.
 use Rattle.hoa_entry.proofs.Told.{sig-shut, sig-sign}
-use native.Mathlib.Omega.{arith}
 use borrow.Author.Needs.{needs}
 use Rattle.hoa_entry.proofs.sig.sig_sign.Statement.{statement}
 use Rattle.hoa_entry.proofs.sig.sig_sign.Tie as tie

@@ -1,6 +1,5 @@
 -- `sig::sig_token` meets its contract: each kind is told apart, and the others are one lemma. Assumes nothing.
 use Rattle.hoa_entry.proofs.Told.{sig-mark, sig-above, sig-by-sign, sig-abort, sig-other}
-use native.Mathlib.Omega.{arith}
 use borrow.Author.Needs.{needs}
 use Rattle.hoa_entry.proofs.sig.sig_token.Statement.{statement}
 use Rattle.hoa_entry.proofs.sig.sig_token.Tie as tie

@@ -7,7 +7,6 @@ use borrow.Author.Tests.{lt-ltb, le-ltb}
 use Rattle.marks.specs.Mark.{union, width}
 use Rattle.hoa_entry.specs.Sig.{alone}
 use lib.Bits.{or-zero-r}
-use native.Mathlib.Omega.{arith}
 use borrow.Author.Needs.{needs}
 use Rattle.hoa_entry.proofs.sig.with_mark.Statement.{statement}
 use Rattle.hoa_entry.proofs.sig.with_mark.Tie as tie

@@ -1,7 +1,6 @@
 -- `token::entry_at` meets its contract: what the token that is found is (`entry-here`). Assumes nothing.
 use denote.Ref.{now}
 use Rattle.hoa_entry.proofs.Steps.{entry-here}
-use native.Mathlib.Omega.{arith}
 use borrow.Author.Needs.{needs}
 use Rattle.hoa_entry.proofs.token.entry_at.Statement.{statement}
 use Rattle.hoa_entry.proofs.token.entry_at.Tie as tie

@@ -1,6 +1,5 @@
 -- `token::entry_header` meets its contract: `State:` is told apart, and the others are one lemma. Assumes nothing.
 use Rattle.hoa_entry.proofs.Told.{other-header}
-use native.Mathlib.Omega.{arith}
 use borrow.Author.Needs.{needs}
 use Rattle.hoa_entry.proofs.token.entry_header.Statement.{statement}
 use Rattle.hoa_entry.proofs.token.entry_header.Tie as tie

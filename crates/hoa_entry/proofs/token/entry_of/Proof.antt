@@ -1,6 +1,5 @@
 -- `token::entry_of` meets its contract: each kind is told apart, and the others are one lemma. Assumes nothing.
 use Rattle.hoa_entry.proofs.Told.{told-header, told-sign, told-int, told-text, told-end, told-abort, other-kind}
-use native.Mathlib.Omega.{arith}
 use borrow.Author.Needs.{needs}
 use Rattle.hoa_entry.proofs.token.entry_of.Statement.{statement}
 use Rattle.hoa_entry.proofs.token.entry_of.Tie as tie

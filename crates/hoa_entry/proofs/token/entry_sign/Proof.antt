@@ -1,6 +1,5 @@
 -- `token::entry_sign` meets its contract: each mark is told apart, and the others are one lemma. Assumes nothing.
 use Rattle.hoa_entry.proofs.Told.{other-sign}
-use native.Mathlib.Omega.{arith}
 use borrow.Author.Needs.{needs}
 use Rattle.hoa_entry.proofs.token.entry_sign.Statement.{statement}
 use Rattle.hoa_entry.proofs.token.entry_sign.Tie as tie

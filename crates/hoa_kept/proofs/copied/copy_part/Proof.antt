@@ -3,7 +3,6 @@ use Prim.Native.Nat.{_-_}
 use denote.Ref.{now}
 use Rattle.hoa_kept.proofs.Copying.{Pasting, pasting-none, pasting-more, pasting-done}
 use borrow.Author.Needs.{needs}
-use native.Mathlib.Omega.{arith}
 use Rattle.hoa_kept.proofs.copied.copy_part.Statement.{statement}
 use Rattle.hoa_kept.proofs.copied.copy_part.Tie as tie
 

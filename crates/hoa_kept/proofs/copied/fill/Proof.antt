@@ -3,7 +3,6 @@ use Prim.Native.Nat.{_-_}
 use denote.Ref.{now}
 use Rattle.hoa_kept.proofs.Copying.{Filling, filling-none, filling-more, filling-done}
 use borrow.Author.Needs.{needs}
-use native.Mathlib.Omega.{arith}
 use Rattle.hoa_kept.proofs.copied.fill.Statement.{statement}
 use Rattle.hoa_kept.proofs.copied.fill.Tie as tie
 

@@ -1,6 +1,5 @@
 -- `held::begin_row` meets its contract by its statements. Assumes nothing.
 use mathlib.Core.Path.{refl}
-use native.Mathlib.Omega.{arith}
 use borrow.Author.Needs.{needs}
 use Rattle.hoa_kept.proofs.held.begin_row.Statement.{statement}
 use Rattle.hoa_kept.proofs.held.begin_row.Tie as tie

@@ -1,7 +1,5 @@
 -- `handed::enough` meets its contract, table by table. Assumes nothing.
 use borrow.Author.Tests.{le-leb, lt-leb}
-use borrow.Author.Needs.{needs}
-use native.Mathlib.Omega.{arith}
 use Rattle.hoa_rows.proofs.handed.enough.Statement.{statement}
 use Rattle.hoa_rows.proofs.handed.enough.Tie as tie
 

@@ -1,6 +1,5 @@
 -- `reader::closing_fault` meets its contract: each kind is told apart, and the others are one lemma. Assumes nothing.
 use Rattle.hoa_rows.proofs.Closing.{later-finish, later-named, later-kind}
-use native.Mathlib.Omega.{arith}
 use borrow.Author.Needs.{needs}
 use Rattle.hoa_rows.proofs.reader.closing_fault.Statement.{statement}
 use Rattle.hoa_rows.proofs.reader.closing_fault.Tie as tie

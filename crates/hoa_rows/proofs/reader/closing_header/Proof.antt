@@ -1,6 +1,5 @@
 -- `reader::closing_header` meets its contract: `HOA:` is told apart. Assumes nothing.
 use Rattle.hoa_rows.proofs.Closing.{later-header}
-use native.Mathlib.Omega.{arith}
 use borrow.Author.Needs.{needs}
 use Rattle.hoa_rows.proofs.reader.closing_header.Statement.{statement}
 use Rattle.hoa_rows.proofs.reader.closing_header.Tie as tie

@@ -1,5 +1,4 @@
 -- `reader::full_rows` meets its contract by the number that was given. Assumes nothing.
-use native.Mathlib.Omega.{arith}
 use borrow.Author.Needs.{needs}
 use Rattle.hoa_rows.proofs.reader.full_rows.Statement.{statement}
 use Rattle.hoa_rows.proofs.reader.full_rows.Tie as tie

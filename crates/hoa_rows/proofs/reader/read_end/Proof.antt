@@ -1,7 +1,6 @@
 -- `reader::read_end` meets its contract: the text's end closes the rows, and any other token is a fault. Assumes nothing.
 use denote.Ref.{now}
 use Rattle.hoa_rows.proofs.Turning.{closes, closes-wrong}
-use native.Mathlib.Omega.{arith}
 use borrow.Author.Needs.{needs}
 use Rattle.hoa_rows.proofs.reader.read_end.Statement.{statement}
 use Rattle.hoa_rows.proofs.reader.read_end.Tie as tie

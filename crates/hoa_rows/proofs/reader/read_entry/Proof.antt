@@ -2,7 +2,6 @@
 use denote.Ref.{now}
 use Rattle.hoa_rows.proofs.Turning.{later-room, entry-row, entry-edge, entry-close, entry-wrong}
 use borrow.Author.Needs.{needs}
-use native.Mathlib.Omega.{arith}
 use Rattle.hoa_rows.proofs.reader.read_entry.Statement.{statement}
 use Rattle.hoa_rows.proofs.reader.read_entry.Tie as tie
 

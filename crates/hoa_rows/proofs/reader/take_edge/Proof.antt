@@ -2,7 +2,6 @@
 use denote.Ref.{now}
 use Rattle.hoa_rows.proofs.Turning.{edge-turned-wrong, edge-room, edge-turned}
 use borrow.Author.Needs.{needs}
-use native.Mathlib.Omega.{arith}
 use Rattle.hoa_rows.proofs.reader.take_edge.Statement.{statement}
 use Rattle.hoa_rows.proofs.reader.take_edge.Tie as tie
 

@@ -1,7 +1,6 @@
 -- `reader::what_begins` meets its contract, entry by entry. Assumes nothing.
 use mathlib.Core.Path.{sym, _∙_}
 use borrow.Author.Tests.{eq-eqb, ne-eqb}
-use native.Mathlib.Omega.{arith}
 use borrow.Author.Needs.{needs}
 use Rattle.hoa_rows.proofs.reader.what_begins.Statement.{statement}
 use Rattle.hoa_rows.proofs.reader.what_begins.Tie as tie

@@ -1,5 +1,4 @@
 -- `reader::wrong_end` meets its contract by the number that was given. Assumes nothing.
-use native.Mathlib.Omega.{arith}
 use borrow.Author.Needs.{needs}
 use Rattle.hoa_rows.proofs.reader.wrong_end.Statement.{statement}
 use Rattle.hoa_rows.proofs.reader.wrong_end.Tie as tie

@@ -1,5 +1,5 @@
 -- `line::edge_line` meets its contract: 21 where the line is not found, then 22 by the edge's reader. Assumes nothing.
-use mathlib.Core.Path.{_≡_, refl, ap, subst}
+use mathlib.Core.Path.{refl, subst}
 use denote.Ref.{now}
 use borrow.Author.Tests.{not-true, not-false}
 use Rattle.job_values.specs.inner.Told.{Unformed, EdgeAt}

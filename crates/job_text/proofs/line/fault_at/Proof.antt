@@ -1,6 +1,6 @@
 -- `line::fault_at` meets its contract: the byte's place counted from the line's first, from 1. Assumes nothing.
 use mathlib.Core.Path.{_≡_, ap}
-use Prim.Native.Nat.{ℕ, suc, _+_, _-_}
+use Prim.Native.Nat.{suc, _+_, _-_}
 use native.Mathlib.Omega.{arith}
 use borrow.Author.Needs.{needs}
 use Rattle.job_text.specs.Given.{faultAt}

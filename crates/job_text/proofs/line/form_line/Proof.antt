@@ -1,5 +1,5 @@
 -- `line::form_line` meets its contract: where the key is not there the form is 1 and the line stays; else 22 by the form's reader. Assumes nothing.
-use mathlib.Core.Path.{_≡_, refl, ap, subst}
+use mathlib.Core.Path.{subst}
 use denote.Ref.{now}
 use borrow.Author.Tests.{not-true, not-false}
 use Rattle.job_values.specs.inner.Told.{Unformed, FormAt}

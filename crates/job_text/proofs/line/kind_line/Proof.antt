@@ -1,5 +1,5 @@
 -- `line::kind_line` meets its contract: where the key is not there the kind is the usual one and the line stays; else 22 by the kind's reader. Assumes nothing.
-use mathlib.Core.Path.{_≡_, refl, ap, subst, sym, _∙_}
+use mathlib.Core.Path.{subst}
 use denote.Ref.{now}
 use borrow.Author.Tests.{not-true, not-false}
 use Rattle.job_values.specs.inner.Told.{Unformed, KindAt}

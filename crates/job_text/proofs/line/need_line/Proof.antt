@@ -1,5 +1,5 @@
 -- `line::need_line` meets its contract: 21 where the line is not found, then 22 by the needs' reader. Assumes nothing.
-use mathlib.Core.Path.{_≡_, refl, sym, subst}
+use mathlib.Core.Path.{refl, sym, subst}
 use denote.Ref.{now}
 use borrow.Author.Tests.{not-true, not-false}
 use Rattle.job_values.specs.inner.Told.{Unformed}

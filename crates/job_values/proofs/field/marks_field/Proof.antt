@@ -1,10 +1,10 @@
 -- `field::marks_field` meets its contract: the digits passed spell the value so far, which has four bits for each, so that eight fit.
 -- The measure is what is left of the eight. Assumes nothing.
 use mathlib.Core.Path.{_≡_, sym, ap, _∙_}
-use mathlib.Core.Option.{some, none}
-use Prim.Native.Nat.{ℕ, _+_, _-_, _*_, _≤_, _<_}
+use mathlib.Core.Option.{some}
+use Prim.Native.Nat.{_+_, _-_, _*_, _<_}
 use denote.Ref.{now}
-use lib.ListN.{length, getD}
+use lib.ListN.{getD}
 use Rattle.digits.specs.Digit.{hexDigit}
 use Rattle.digits.specs.Given.{digitGiven}
 use Rattle.job_values.proofs.Marks.{Spells, spells-none, spells-more, marks-fit, marks-cut, marks-long, marks-got}

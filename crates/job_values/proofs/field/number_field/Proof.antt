@@ -2,11 +2,10 @@
 use mathlib.Core.Path.{_≡_}
 use mathlib.Core.Logic.{⊎-elim}
 use mathlib.Core.Option.{some}
-use Prim.Native.Nat.{ℕ, suc, _+_}
+use Prim.Native.Nat.{suc, _+_}
 use denote.Ref.{now}
 use Rattle.table.specs.Row.{part}
 use Rattle.job_values.specs.Number.{number}
-use Rattle.job_values.specs.inner.Field.{Ended, Stuck, Got}
 use Rattle.job_values.proofs.Fields.{number-empty, number-cut, number-got}
 use borrow.Author.Needs.{needs}
 use native.Mathlib.Omega.{arith}

@@ -1,14 +1,13 @@
 -- `field::number_run` meets its contract: the digits passed spell the value so far; it stops at the first byte that makes no number with them.
 -- The measure is what is left of the line. Assumes nothing.
-use mathlib.Core.Path.{_≡_, refl, sym, ap, _∙_}
-use mathlib.Core.Option.{some, none}
-use Prim.Native.Nat.{ℕ, _+_, _-_, _*_, _≤_, _<_}
+use mathlib.Core.Path.{_≡_, sym, ap, _∙_}
+use mathlib.Core.Option.{some}
+use Prim.Native.Nat.{_-_}
 use denote.Ref.{now}
-use lib.ListN.{length, getD}
+use lib.ListN.{getD}
 use Rattle.digits.specs.Digit.{digit}
 use Rattle.digits.specs.Given.{digitGiven}
 use Rattle.digits.proofs.Digits.{digit-below}
-use Rattle.job_values.specs.inner.Field.{Within}
 use Rattle.job_values.proofs.Fields.{newline-there}
 use Rattle.job_values.proofs.Runs.{Spells, zero-run, spells-none, spells-more, run-stops, run-full}
 use borrow.Author.Needs.{needs}

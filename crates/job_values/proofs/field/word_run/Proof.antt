@@ -1,10 +1,9 @@
 -- `field::word_run` meets its contract: the bytes passed agree. The measure is what is left of the word. Assumes nothing.
-use Prim.Native.Nat.{ℕ, _-_}
+use Prim.Native.Nat.{_-_}
 use denote.Ref.{now}
 use lib.ListN.{length}
 use Rattle.job_values.proofs.Words.{Agrees, agrees-none, agrees-end, agrees-done, agrees-stop, agrees-more}
 use borrow.Author.Needs.{needs}
-use native.Mathlib.Omega.{arith}
 use Rattle.job_values.proofs.field.word_run.Statement.{statement}
 use Rattle.job_values.proofs.field.word_run.Tie as tie
 

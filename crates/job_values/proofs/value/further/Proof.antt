@@ -2,7 +2,6 @@
 use mathlib.Core.Path.{refl}
 use mathlib.Core.Logic.{inl, inr}
 use native.Mathlib.Omega.{arith}
-use borrow.Author.Needs.{needs}
 use Rattle.job_values.proofs.value.further.Statement.{statement}
 use Rattle.job_values.proofs.value.further.Tie as tie
 

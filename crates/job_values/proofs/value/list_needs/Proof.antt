@@ -2,15 +2,13 @@
 -- The measure is what is left of the count. Assumes nothing.
 use mathlib.Core.Path.{_≡_, sym, ap, subst, _∙_}
 use mathlib.Core.List.{List}
-use Prim.Native.Nat.{ℕ, _+_, _-_, _≤_, _<_}
+use Prim.Native.Nat.{ℕ, _-_}
 use denote.Ref.{now}
-use Rattle.table.specs.Refusal.{mostRabin}
-use Rattle.table.specs.Row.{part}
 use Rattle.job_values.specs.Bytes.{newline, comma, fields}
 use Rattle.job_values.specs.Number.{number}
 use Rattle.job_values.specs.Value.{eight, listed}
-use Rattle.job_values.specs.inner.Field.{FieldAt, Got}
-use Rattle.job_values.specs.inner.Told.{wrongPlace, noNeeds, Unformed, ListAt}
+use Rattle.job_values.specs.inner.Field.{FieldAt}
+use Rattle.job_values.specs.inner.Told.{wrongPlace, noNeeds, ListAt}
 use Rattle.job_values.proofs.Edges.{comma-digit, newline-digit}
 use Rattle.job_values.proofs.Needs.{SoFar, so-far-none, field-lost, field-got, last-lost, last-got, eight-lost, eight-got}
 use native.Mathlib.Omega.{arith}

@@ -1,6 +1,5 @@
 -- `value::read_edge` meets its contract: the edge is lost where the first of its fields is, and else it says what they say. Assumes nothing.
-use mathlib.Core.Path.{_≡_, sym, ap, subst, _∙_}
-use Prim.Native.Nat.{ℕ}
+use mathlib.Core.Path.{sym, ap, subst, _∙_}
 use denote.Ref.{now}
 use Rattle.job_values.specs.Bytes.{newline, comma}
 use Rattle.job_values.specs.Number.{number, hexWord}

@@ -1,6 +1,6 @@
 -- `value::read_form` meets its contract: its word is the only one of the form. Assumes nothing.
-use mathlib.Core.Path.{_≡_, subst}
-use mathlib.Core.List.{List, [], _∷_}
+use mathlib.Core.Path.{subst}
+use mathlib.Core.List.{[], _∷_}
 use denote.Ref.{now}
 use Rattle.table.specs.Row.{part}
 use Rattle.job_values.specs.inner.Told.{WordAt}

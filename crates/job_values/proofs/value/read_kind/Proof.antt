@@ -1,5 +1,5 @@
 -- `value::read_kind` meets its contract: its words are those of the form, in the rule's order; it is lost where the word that it agrees with furthest is. Assumes nothing.
-use mathlib.Core.Path.{_≡_, subst}
+use mathlib.Core.Path.{subst}
 use denote.Ref.{now}
 use Rattle.table.specs.Row.{part}
 use Rattle.job_values.specs.Value.{buchi, streett, rabin}

@@ -1,5 +1,5 @@
 -- `value::read_needs` meets its contract: where the kind and the count have needs the list decides, and else the word `-`. Assumes nothing.
-use mathlib.Core.Path.{_≡_, sym, subst, _∙_}
+use mathlib.Core.Path.{sym, subst, _∙_}
 use denote.Ref.{now}
 use Rattle.table.specs.Row.{part}
 use Rattle.job_values.specs.Value.{dash, needs as needsOf}

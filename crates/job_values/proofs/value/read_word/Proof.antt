@@ -1,6 +1,5 @@
 -- `value::read_word` meets its contract: the value is compared with the word, and where they differ the run says how far they agree. Assumes nothing.
-use mathlib.Core.Path.{_≡_, sym, _∙_}
-use denote.Ref.{now}
+use mathlib.Core.Path.{sym, _∙_}
 use borrow.Author.Needs.{needs}
 use Rattle.job_values.proofs.value.read_word.Statement.{statement}
 use Rattle.job_values.proofs.value.read_word.Tie as tie

@@ -15,12 +15,12 @@ use checks::random::Random;
 use mukhadero::{ffi, Condition};
 use std::hint::black_box;
 
-const SAMPLES: usize = 25;
+const SAMPLES: usize = 15;
 /// For passes that take long.
-const FEWER_SAMPLES: usize = 9;
-const LONG: f64 = 10e6;
+const FEWER_SAMPLES: usize = 7;
+const LONG: f64 = 20e6;
 /// Edges of all the tables of a row together.
-const EDGES_TOGETHER: u32 = 4 * 32_768;
+const EDGES_TOGETHER: u32 = 16 * 32_768;
 
 type Make = fn(edges: u32, random: &mut Random) -> Case;
 
@@ -62,6 +62,22 @@ struct Shown {
     nanoseconds: f64,
     runs: u64,
     lasso: u64,
+}
+
+/// The tables of a row, and the judge's time for one of them.
+#[derive(Clone, Copy)]
+struct Size {
+    states: u64,
+    edges: u64,
+    nanoseconds: f64,
+}
+
+impl Size {
+    /// Whether states and edges are both twice as many, but for some that a family has whatever its size: only then growth tells whether time is linear.
+    fn doubles(&self, before: &Size) -> bool {
+        let twice = |now: u64, then: u64| (2 * then).abs_diff(now) * 16 <= now;
+        twice(self.states, before.states) && twice(self.edges, before.edges)
+    }
 }
 
 /// One pass over the tables: runs and edges of lassos.
@@ -155,7 +171,7 @@ fn main() {
     println!("|---|---:|---:|---|---:|---:|---:|---:|---:|---:|");
     let mut worst: (f64, String) = (0.0, String::new());
     for (name, make) in FAMILIES {
-        let mut before: Option<f64> = None;
+        let mut before: Option<Size> = None;
         for &size in sizes {
             let tables = (EDGES_TOGETHER / size) as u64;
             let cases: Vec<Case> = (0..tables).map(|number| make(size, &mut Random::of_table(6, number))).collect();
@@ -168,9 +184,8 @@ fn main() {
                 runs if runs == tables => "run".to_string(),
                 runs => format!("{runs} of {tables} run"),
             };
-            // how the judge's time for one table grew against the row before, which has half the edges
-            let each = linked.nanoseconds / tables as f64;
-            let growth = before.map_or("-".to_string(), |time| format!("{:.2}", each / time));
+            let here = Size { states: states / tables, edges: edges / tables, nanoseconds: linked.nanoseconds / tables as f64 };
+            let growth = before.filter(|before| here.doubles(before)).map_or("-".to_string(), |before| format!("{:.2}", here.nanoseconds / before.nanoseconds));
             let lasso = |shown: &Shown| match shown.runs {
                 0 => "-".to_string(),
                 runs => format!("{:.1}", shown.lasso as f64 / runs as f64),
@@ -187,7 +202,7 @@ fn main() {
             if ratio > worst.0 {
                 worst = (ratio, format!("{name}, m {}", edges / tables));
             }
-            before = Some(each);
+            before = Some(here);
         }
     }
     println!("\nWorst ratio: {:.2} ({}).", worst.0, worst.1);

@@ -3,7 +3,7 @@
 use mathlib.Core.Path.{_≡_, refl, sym, ap, subst}
 use mathlib.Core.Logic.{inl, inr}
 use mathlib.Core.List.{List}
-use Prim.Native.Nat.{ℕ, zero, suc, _+_, _≤_, _<_, max}
+use Prim.Native.Nat.{ℕ, zero, suc, _+_, _≤_, _<_}
 use native.Mathlib.Omega.{arith}
 use lib.ListN.{length, getD}
 use borrow.Author.Tests.{le-ltb}
@@ -13,7 +13,7 @@ use Rattle.marks.proofs.Laws.{has-union}
 use Rattle.table.specs.declared.Finding.the-variants.{Sound}
 use Rattle.table.specs.Table.{lent}
 use Rattle.table.specs.Refusal.{edgeRefusal}
-use Rattle.table.specs.inner.Looks.{before, Fell, Shows}
+use Rattle.table.specs.inner.Looks.{before, Above, Shows}
 use Rattle.table.proofs.Faults.{order-test, covered-small}
 use Rattle.table.proofs.Sound.{EdgeFit, fit-edges}
 
@@ -33,28 +33,31 @@ covers-through a b c p q i h = p i (q i h)
 
 -- ---- the look
 
-module _ (from to marks : List ℕ) where
-  pub shows-none : Shows from to marks 0 0 0 0 0
+-- what is not counted as above is not above
+not-above : {a b r : ℕ} → Above a b r → r ≡ 0 → a ≤ b
+not-above {a} {b} A z = below b a (λ l. absurd (omega (arith, A .over l))) (λ l. l)
+
+module _ (top : ℕ) (from to marks : List ℕ) where
+  pub shows-none : Shows top from to marks 0 0 0 0 0
   shows-none =
-      record { arrives = λ d l. absurd (omega arith); leaves = refl; bears = λ d l. absurd (omega arith); rises = λ z d l. absurd (omega arith) }
+      record { arrives = λ z d l. absurd (omega arith); leaves = refl; bears = λ d l. absurd (omega arith); rises = λ z d l. absurd (omega arith) }
 
   -- one edge more
-  pub shows-more : (e h l u f g : ℕ) → Shows from to marks e h l u f → Fell l (getD from e 0) g
-      → Shows from to marks (suc e) (max h (getD to e 0)) (getD from e 0) (union u (getD marks e 0)) (f + g)
-  shows-more e h l u f g s fell =
+  pub shows-more : (e h l u f k g : ℕ) → Shows top from to marks e h l u f → Above (getD to e 0) top k → Above l (getD from e 0) g
+      → Shows top from to marks (suc e) (h + k) (getD from e 0) (union u (getD marks e 0)) (f + g)
+  shows-more e h l u f k g s past fell =
       record {
-        arrives = λ d b. same d e (λ q. omega (arith, ap (λ (x : ℕ). getD to x 0) q)) (λ q. omega (arith, s .arrives d (omega arith)));
+        arrives = λ z d b. same d e
+            (λ q. subst (λ (x : ℕ). getD to x 0 ≤ top) (sym q) (not-above past (omega arith)))
+            (λ q. s .arrives (omega arith) d (omega arith));
         leaves = refl;
         bears = λ d b. same d e
             (λ q. subst (λ (x : ℕ). Covers (union u (getD marks e 0)) (getD marks x 0)) (sym q) (covers-joined u (getD marks e 0)))
             (λ q. covers-more u (getD marks e 0) (getD marks d 0) (s .bears d (omega arith)));
         rises = λ z d b. same d e
-            (λ q. subst (λ (x : ℕ). before from x ≤ getD from x 0) (sym q) (risen z))
+            (λ q. subst (λ (x : ℕ). before from x ≤ getD from x 0) (sym q) (omega (arith, s .leaves, not-above fell (omega arith))))
             (λ q. s .rises (omega arith) d (omega arith));
       }
-    where
-      risen : f + g ≡ 0 → before from e ≤ getD from e 0
-      risen z = below (getD from e 0) l (λ b. absurd (omega (arith, fell .falls b))) (λ b. omega (arith, s .leaves))
 
 -- ---- what it shows
 
@@ -66,15 +69,15 @@ last-highest from (suc e) up d l =
     (λ q. omega (arith, last-highest from e (λ x b. up x (omega arith)) d (omega arith), up e (omega arith)))
 
 -- a look that shows no fault shows a sound table
-pub shown-sound : (n : ℕ) (from to marks : List ℕ) (used h l u f : ℕ) → Shows from to marks (length from) h l u f
-    → f ≡ 0 → max h l < n → Covers (firstMarks width used) u → edgeRefusal (lent n 0 from to marks) used 0 (length from) ≡ Sound
-shown-sound n from to marks used h l u f s none high few = fit-edges (lent n 0 from to marks) used 0 (length from) (λ d b₀ b. fit d (omega arith))
+pub shown-sound : (n top : ℕ) (from to marks : List ℕ) (used h l u f : ℕ) → Shows top from to marks (length from) h l u f
+    → f ≡ 0 → h ≡ 0 → top < n → l < n → Covers (firstMarks width used) u → edgeRefusal (lent n 0 from to marks) used 0 (length from) ≡ Sound
+shown-sound n top from to marks used h l u f s none not-astray low last few = fit-edges (lent n 0 from to marks) used 0 (length from) (λ d b₀ b. fit d (omega arith))
   where
     fit : (d : ℕ) → d < length from → EdgeFit (lent n 0 from to marks) used d
     fit d b =
         record {
           leaves = omega (arith, s .leaves, last-highest from (length from) (s .rises none) d b);
-          arrives = omega (arith, s .arrives d b);
+          arrives = omega (arith, s .arrives not-astray d b);
           order = rw order-test (le-ltb (getD from d 0) (before from d) (s .rises none d b));
           marks = covered-small used (getD marks d 0) (covers-through (firstMarks width used) u (getD marks d 0) few (s .bears d b));
         }

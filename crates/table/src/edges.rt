@@ -3,56 +3,50 @@
 // table with start 0.
 ghost use mathlib.Core.Path.{_≡_};
 ghost use mathlib.Core.Bool.{true};
-ghost use Prim.Native.Nat.{_≤_, max};
+ghost use Prim.Native.Nat.{_≤_};
 ghost use lib.ListN.{length};
 ghost use Rattle.table.specs.Table.{Table, lent};
 ghost use Rattle.table.specs.Refusal.{edgeRefusal, mostEdges};
-ghost use Rattle.table.specs.inner.Looks.{Even, Fell, Shows};
+ghost use Rattle.table.specs.inner.Looks.{Even, Above, Shows};
 use crate::Finding;
 
-// What a look over all edges shows: the highest state that one arrives at, the state that the last one leaves, the union
-// of their marks, and how many from states are below the one before.
+// What a look over all edges shows: how many arrive above a state, the state that the last one leaves, the union of their marks,
+// and how many from states are below the one before.
 struct Look {
-    highest: u32,
+    astray: u32,
     last: u32,
     union: u32,
     falls: u32,
 }
 
-// The larger of two numbers.
-fn larger(a: u32, b: u32) -> u32
-    ensures { λ r. ⌜ r ≡ max a b ⌝ }
+// 1 if the first of two numbers is above the second, else 0.
+fn above(a: u32, b: u32) -> u32
+    ensures { λ r. ⌜ Above a b r ⌝ }
 {
-    if a < b { b } else { a }
+    if b < a { 1 } else { 0 }
 }
 
-// 1 if a from state is below the one before it, else 0.
-fn fall(last: u32, leaves: u32) -> u32
-    ensures { λ r. ⌜ Fell last leaves r ⌝ }
-{
-    if leaves < last { 1 } else { 0 }
-}
-
-// A look over all edges.
-fn look_over(from: &[u32], to: &[u32], marks: &[u32]) -> Look
+// A look over all edges. Those that arrive above a state are counted, as counting takes fewer instructions than the highest end.
+fn look_over(top: u32, from: &[u32], to: &[u32], marks: &[u32]) -> Look
     requires { ⌜ Even (now from) (now to) (now marks) ⌝ }
-    ensures { λ r. ⌜ Shows (now (from .entry)) (now (to .entry)) (now (marks .entry)) (length (now (from .entry))) (r .highest) (r .last) (r .union) (r .falls) ⌝ }
+    ensures { λ r.
+        ⌜ Shows top (now (from .entry)) (now (to .entry)) (now (marks .entry)) (length (now (from .entry))) (r .astray) (r .last) (r .union) (r .falls) ⌝ }
 {
-    let mut highest: u32 = 0;
+    let mut astray: u32 = 0;
     let mut last: u32 = 0;
     let mut union: u32 = 0;
     let mut falls: u32 = 0;
     let mut e: usize = 0;
     while e < from.len() {
         let leaves = from[e];
-        highest = larger(highest, to[e]);
+        astray += above(to[e], top);
         union = marks::join(union, marks[e]);
-        falls += fall(last, leaves);
+        falls += above(last, leaves);
         last = leaves;
         e += 1;
     }
     Look {
-        highest,
+        astray,
         last,
         union,
         falls,
@@ -66,11 +60,17 @@ fn all_sound(n: u32, from: &[u32], to: &[u32], marks: &[u32], used: u32) -> bool
     requires { λ t. ⌜ Even (t .from) (t .to) (t .marks) ⌝ }
     ensures { λ t r. ⌜ (r ≡ true → edgeRefusal t used 0 (t .edges) ≡ Finding.Sound) ⌝ }
 {
-    let look = look_over(from, to, marks);
+    if n == 0 {
+        return false;
+    }
+    let look = look_over(n - 1, from, to, marks);
     if 0 < look.falls {
         return false;
     }
-    if n <= larger(look.highest, look.last) {
+    if 0 < look.astray {
+        return false;
+    }
+    if n <= look.last {
         return false;
     }
     marks::covers(marks::first_marks(used), look.union)

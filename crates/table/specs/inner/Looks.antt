@@ -17,16 +17,16 @@ abbrev pub before : List ℕ → ℕ → ℕ
 before from zero = 0
 before from (suc e) = getD from e 0
 
--- r counts one fall: it is 1 if a from state is below the one before it, else 0
-pub record Fell (last leaves r : ℕ) : Type 0 where
+-- r is 1 if a is above b, else 0
+pub record Above (a b r : ℕ) : Type 0 where
   pub most : r ≤ 1
-  pub falls : leaves < last → r ≡ 1
-  pub rises : last ≤ leaves → r ≡ 0
+  pub over : b < a → r ≡ 1
+  pub not-over : a ≤ b → r ≡ 0
 
--- of the edges below e: none arrives above `highest`; `last` is the from state of the last; `union` has each mark that one bears; and if `falls` is 0
--- no from state is below the one before it
-pub record Shows (from to marks : List ℕ) (e highest last union falls : ℕ) : Type 0 where
-  pub arrives : (d : ℕ) → d < e → getD to d 0 ≤ highest
+-- of the edges below e: if `astray` is 0 none arrives above `top`; `last` is the from state of the last; `union` has each mark that one bears; and if
+-- `falls` is 0 no from state is below the one before it
+pub record Shows (top : ℕ) (from to marks : List ℕ) (e astray last union falls : ℕ) : Type 0 where
+  pub arrives : astray ≡ 0 → (d : ℕ) → d < e → getD to d 0 ≤ top
   pub leaves : last ≡ before from e
   pub bears : (d : ℕ) → d < e → Covers union (getD marks d 0)
   pub rises : falls ≡ 0 → (d : ℕ) → d < e → before from d ≤ getD from d 0

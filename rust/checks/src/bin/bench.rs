@@ -1,12 +1,13 @@
 //! The benchmark: the linked judge beside the plain one, in one run, on families of tables up to the limits. Prints a Markdown
 //! table, of which `tools/bench` makes docs/bench-table.md. `bench` alone measures everything; `bench quick` only the smallest size,
-//! to see that it works.
+//! to see that it works; `bench WORD` only the families with the word in their names.
 //!
 //! A row's tables have the same number of edges together, whatever their size, and a sample is one pass over all of them: so small
 //! tables gain nothing from a processor that has learnt a single one by heart, and growth can be read off. The first passes warm
-//! caches and are not counted. Time is the thread's processor time. The two judges take turns, sample by sample, so that noise of
-//! the machine meets both; the figures are medians over the samples. Room and scratch are exactly as long as needed; each judge
-//! leaves them in order itself, and that is part of its time.
+//! caches and are not counted. Time is the thread's processor time. In a round each size of the family is passed over by the one
+//! judge and then the other, and ratio and growth are medians of what each round says: so a slow spell of the machine, which lasts
+//! longer than a round, meets both sides of each. Room and scratch are exactly as long as needed; each judge leaves them in order
+//! itself, and that is part of its time.
 
 use checks::case::Case;
 use checks::families;
@@ -15,10 +16,8 @@ use checks::random::Random;
 use mukhadero::{ffi, Condition};
 use std::hint::black_box;
 
-const SAMPLES: usize = 15;
-/// For passes that take long.
-const FEWER_SAMPLES: usize = 7;
-const LONG: f64 = 20e6;
+/// How often each row is passed over by each judge.
+const ROUNDS: usize = 15;
 /// Edges of all the tables of a row together.
 const EDGES_TOGETHER: u32 = 16 * 32_768;
 
@@ -56,32 +55,62 @@ const FAMILIES: &[(&str, Make)] = &[
 
 const SIZES: &[u32] = &[4_096, 8_192, 16_384, 32_768];
 
-/// What one judge showed on the tables of a row: time of a pass, runs among its answers, edges of their lassos.
-#[derive(Default)]
-struct Shown {
-    nanoseconds: f64,
-    runs: u64,
-    lasso: u64,
-}
-
-/// The tables of a row, and the judge's time for one of them.
-#[derive(Clone, Copy)]
-struct Size {
+/// The tables of a row: a family at a size.
+struct Row {
+    cases: Vec<Case>,
     states: u64,
     edges: u64,
-    nanoseconds: f64,
 }
 
-impl Size {
-    /// Whether states and edges are both twice as many, but for some that a family has whatever its size: only then growth tells whether time is linear.
-    fn doubles(&self, before: &Size) -> bool {
+impl Row {
+    fn new(make: Make, size: u32) -> Row {
+        let tables = (EDGES_TOGETHER / size) as u64;
+        let cases: Vec<Case> = (0..tables).map(|number| make(size, &mut Random::of_table(6, number))).collect();
+        let states = cases.iter().map(|case| case.states as u64).sum();
+        let edges = cases.iter().map(|case| case.edges() as u64).sum();
+        Row { cases, states, edges }
+    }
+
+    fn tables(&self) -> u64 {
+        self.cases.len() as u64
+    }
+
+    /// Whether a table has twice the states and twice the edges of one of the row before, but for some that a family has whatever its
+    /// size: only then growth tells whether time is linear.
+    fn doubles(&self, before: &Row) -> bool {
         let twice = |now: u64, then: u64| (2 * then).abs_diff(now) * 16 <= now;
-        twice(self.states, before.states) && twice(self.edges, before.edges)
+        twice(self.states / self.tables(), before.states / before.tables()) && twice(self.edges / self.tables(), before.edges / before.tables())
     }
 }
 
-/// One pass over the tables: runs and edges of lassos.
-type Pass<'a> = &'a mut dyn FnMut() -> (u64, u64);
+/// What one judge showed on the tables of a row: runs among its answers, edges of their lassos, and each round's time of a pass.
+struct Shown {
+    runs: u64,
+    lasso: u64,
+    times: Vec<f64>,
+}
+
+impl Shown {
+    fn nanoseconds(&self, row: &Row) -> f64 {
+        median(self.times.clone()) / row.edges as f64
+    }
+
+    /// The time for one table against that for one of the row before.
+    fn growth(&self, row: &Row, before: &(Row, [Shown; 2]), judge: usize) -> String {
+        if !row.doubles(&before.0) {
+            return "-".to_string();
+        }
+        let tables = before.0.tables() as f64 / row.tables() as f64;
+        format!("{:.2}", tables * between(&before.1[judge].times, &self.times))
+    }
+
+    fn mean_lasso(&self) -> String {
+        match self.runs {
+            0 => "-".to_string(),
+            runs => format!("{:.1}", self.lasso as f64 / runs as f64),
+        }
+    }
+}
 
 /// Processor time of this thread, in nanoseconds: while others have the processor, it stands still.
 fn now() -> f64 {
@@ -100,16 +129,21 @@ fn now() -> f64 {
     time.seconds as f64 * 1e9 + time.nanoseconds as f64
 }
 
-fn time(pass: Pass) -> f64 {
-    let begin = now();
-    black_box(pass());
-    now() - begin
-}
-
 fn median(mut samples: Vec<f64>) -> f64 {
     samples.sort_by(f64::total_cmp);
     samples[samples.len() / 2]
 }
+
+/// The second over the first: the median of what each round says.
+fn between(first: &[f64], second: &[f64]) -> f64 {
+    median(first.iter().zip(second).map(|(first, second)| second / first).collect())
+}
+
+/// One judge over the tables of a row: runs and edges of lassos.
+type Pass = fn(cases: &[Case], room: &mut [u32], scratch: &mut [u32]) -> (u64, u64);
+
+/// The plain judge first.
+const JUDGES: [Pass; 2] = [pass_of_plain, pass_of_linked];
 
 fn pass_of_plain(cases: &[Case], room: &mut [u32], scratch: &mut [u32]) -> (u64, u64) {
     let (mut runs, mut lasso) = (0, 0);
@@ -136,73 +170,65 @@ fn pass_of_linked(cases: &[Case], room: &mut [u32], scratch: &mut [u32]) -> (u64
     (runs, lasso)
 }
 
-/// Measures both judges on the tables of a row, taking turns: the plain one first. Also the median of the ratios of neighbouring
-/// samples, which a slow spell of the machine moves less than the ratio of the medians.
-fn measure(cases: &[Case]) -> ([Shown; 2], f64) {
-    let mut room = vec![0; cases.iter().map(|case| case.room).max().unwrap()];
-    let mut scratch = vec![0; cases.iter().map(|case| case.scratch).max().unwrap()];
-    let (mut plain_room, mut plain_scratch) = (room.clone(), scratch.clone());
-    let mut plain = || pass_of_plain(cases, &mut plain_room, &mut plain_scratch);
-    let mut linked = || pass_of_linked(cases, &mut room, &mut scratch);
-    let mut passes: [Pass; 2] = [&mut plain, &mut linked];
-    let mut shown = [Shown::default(), Shown::default()];
-    let mut longest: f64 = 0.0;
-    for (pass, shown) in passes.iter_mut().zip(&mut shown) {
-        (shown.runs, shown.lasso) = pass();
-        longest = longest.max(time(*pass));
+/// Measures both judges on the rows of a family, by turns. Each judge has room and scratch of its own.
+fn measure(rows: Vec<Row>) -> Vec<(Row, [Shown; 2])> {
+    let cells = |of: fn(&Case) -> usize| vec![0; rows.iter().flat_map(|row| &row.cases).map(of).max().unwrap()];
+    let mut lent = JUDGES.map(|_| (cells(|case| case.room), cells(|case| case.scratch)));
+    let mut pass = |judge: usize, row: &Row| {
+        let (room, scratch) = &mut lent[judge];
+        let begin = now();
+        let (runs, lasso) = black_box(JUDGES[judge](&row.cases, room, scratch));
+        (runs, lasso, now() - begin)
+    };
+    let mut measured: Vec<(Row, [Shown; 2])> = Vec::new();
+    for row in rows {
+        let shown = [0, 1].map(|judge| {
+            let (runs, lasso, _) = pass(judge, &row);
+            Shown { runs, lasso, times: Vec::new() }
+        });
+        measured.push((row, shown));
     }
-    let mut samples = [Vec::new(), Vec::new()];
-    for _ in 0..if longest < LONG { SAMPLES } else { FEWER_SAMPLES } {
-        for (pass, samples) in passes.iter_mut().zip(&mut samples) {
-            samples.push(time(*pass));
+    for _ in 0..ROUNDS {
+        for (row, shown) in &mut measured {
+            for (judge, shown) in shown.iter_mut().enumerate() {
+                shown.times.push(pass(judge, row).2);
+            }
         }
     }
-    let ratio = median(samples[0].iter().zip(&samples[1]).map(|(plain, linked)| linked / plain).collect());
-    for (shown, samples) in shown.iter_mut().zip(samples) {
-        shown.nanoseconds = median(samples);
-    }
-    (shown, ratio)
+    measured
 }
 
 fn main() {
-    let quick = std::env::args().nth(1).as_deref() == Some("quick");
-    let sizes = if quick { &SIZES[..1] } else { SIZES };
-    println!("| family | n | m | verdict | plain ns/edge | judge ns/edge | ratio | growth | plain lasso | judge lasso |");
-    println!("|---|---:|---:|---|---:|---:|---:|---:|---:|---:|");
+    let asked = std::env::args().nth(1).unwrap_or_default();
+    let (sizes, word) = if asked == "quick" { (&SIZES[..1], "") } else { (SIZES, asked.as_str()) };
+    println!("| family | n | m | verdict | plain ns/edge | judge ns/edge | ratio | plain growth | growth | plain lasso | judge lasso |");
+    println!("|---|---:|---:|---|---:|---:|---:|---:|---:|---:|---:|");
     let mut worst: (f64, String) = (0.0, String::new());
-    for (name, make) in FAMILIES {
-        let mut before: Option<Size> = None;
-        for &size in sizes {
-            let tables = (EDGES_TOGETHER / size) as u64;
-            let cases: Vec<Case> = (0..tables).map(|number| make(size, &mut Random::of_table(6, number))).collect();
-            let states: u64 = cases.iter().map(|case| case.states as u64).sum();
-            let edges: u64 = cases.iter().map(|case| case.edges() as u64).sum();
-            let ([plain, linked], ratio) = measure(&cases);
+    for (name, make) in FAMILIES.iter().filter(|(name, _)| name.contains(word)) {
+        let measured = measure(sizes.iter().map(|&size| Row::new(*make, size)).collect());
+        for (at, (row, [plain, linked])) in measured.iter().enumerate() {
             assert_eq!(plain.runs, linked.runs, "{name}: the verdicts differ");
+            let tables = row.tables();
             let verdict = match linked.runs {
                 0 => "empty".to_string(),
                 runs if runs == tables => "run".to_string(),
                 runs => format!("{runs} of {tables} run"),
             };
-            let here = Size { states: states / tables, edges: edges / tables, nanoseconds: linked.nanoseconds / tables as f64 };
-            let growth = before.filter(|before| here.doubles(before)).map_or("-".to_string(), |before| format!("{:.2}", here.nanoseconds / before.nanoseconds));
-            let lasso = |shown: &Shown| match shown.runs {
-                0 => "-".to_string(),
-                runs => format!("{:.1}", shown.lasso as f64 / runs as f64),
-            };
+            let [plain_growth, growth] = [(plain, 0), (linked, 1)]
+                .map(|(shown, judge)| if at == 0 { "-".to_string() } else { shown.growth(row, &measured[at - 1], judge) });
+            let ratio = between(&plain.times, &linked.times);
             println!(
-                "| {name} | {} | {} | {verdict} | {:.2} | {:.2} | {ratio:.2} | {growth} | {} | {} |",
-                states / tables,
-                edges / tables,
-                plain.nanoseconds / edges as f64,
-                linked.nanoseconds / edges as f64,
-                lasso(&plain),
-                lasso(&linked),
+                "| {name} | {} | {} | {verdict} | {:.2} | {:.2} | {ratio:.2} | {plain_growth} | {growth} | {} | {} |",
+                row.states / tables,
+                row.edges / tables,
+                plain.nanoseconds(row),
+                linked.nanoseconds(row),
+                plain.mean_lasso(),
+                linked.mean_lasso(),
             );
             if ratio > worst.0 {
-                worst = (ratio, format!("{name}, m {}", edges / tables));
+                worst = (ratio, format!("{name}, m {}", row.edges / tables));
             }
-            before = Some(here);
         }
     }
     println!("\nWorst ratio: {:.2} ({}).", worst.0, worst.1);

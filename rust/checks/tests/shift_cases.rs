@@ -233,6 +233,10 @@ fn large_tables() {
     let run = check(&families::lone_states(4096, 4096, Buchi { marks: 0 }, random), RUN);
     assert_eq!(run.cycle_length, 1);
     check(&families::lone_states(4096, 32768, Buchi { marks: 1 }, random), EMPTY);
+    // from 257 states on that can be reached, a short round from the start is looked for first
+    for states in [256, 257, 512, 4096] {
+        check(&families::scattered(states, 8 * states, Streett { pairs: 4 }, 10, random), RUN);
+    }
 }
 
 /// The deep family is as deep as it says: given only the first i rounds of erasing, something bad is still left.

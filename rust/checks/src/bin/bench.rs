@@ -1,6 +1,7 @@
 //! The benchmark: the linked judge beside the plain one, in one run, on families of tables up to the limits. Prints a Markdown
 //! table, of which `tools/bench` makes docs/bench-table.md. `bench` alone measures everything; `bench quick` only the smallest size,
-//! to see that it works; `bench WORD` only the families with the word in their names.
+//! to see that it works; `bench WORD` only the families with the word in their names. `bench once` prints a line for each row with its
+//! number, and `bench once NUMBER` only has the linked judge pass over that row: `tools/bench --instructions` counts what that takes.
 //!
 //! A row's tables have the same number of edges together, whatever their size, and a sample is one pass over all of them: so small
 //! tables gain nothing from a processor that has learnt a single one by heart, and growth can be read off. The first passes warm
@@ -198,8 +199,27 @@ fn measure(rows: Vec<Row>) -> Vec<(Row, [Shown; 2])> {
     measured
 }
 
+/// Prints the rows: number, family, states and edges of a table, tables; or passes over one of them.
+fn once(number: Option<usize>) {
+    let rows = || FAMILIES.iter().flat_map(|(name, make)| SIZES.iter().map(move |&size| (name, make, size)));
+    let Some(number) = number else {
+        return rows().enumerate().for_each(|(number, (name, make, size))| {
+            let case = make(size, &mut Random::of_table(6, 0));
+            println!("{number}|{name}|{}|{}|{}", case.states, case.edges(), EDGES_TOGETHER / size);
+        });
+    };
+    let (_, make, size) = rows().nth(number).expect("no such row");
+    let row = Row::new(*make, size);
+    let mut room = vec![0; row.cases.iter().map(|case| case.room).max().unwrap()];
+    let mut scratch = vec![0; row.cases.iter().map(|case| case.scratch).max().unwrap()];
+    black_box(pass_of_linked(&row.cases, &mut room, &mut scratch));
+}
+
 fn main() {
     let asked = std::env::args().nth(1).unwrap_or_default();
+    if asked == "once" {
+        return once(std::env::args().nth(2).map(|number| number.parse().expect("the number of a row")));
+    }
     let (sizes, word) = if asked == "quick" { (&SIZES[..1], "") } else { (SIZES, asked.as_str()) };
     println!("| family | n | m | verdict | plain ns/edge | judge ns/edge | ratio | plain growth | growth | plain lasso | judge lasso |");
     println!("|---|---:|---:|---|---:|---:|---:|---:|---:|---:|---:|");

@@ -1,5 +1,5 @@
 -- Whether the marks on a cycle meet a condition: mark by mark and pair by pair. Assumes nothing.
-use mathlib.Core.Path.{_≡_, refl, sym, ap, _∙_, subst}
+use mathlib.Core.Path.{_≡_, refl, sym, ap, subst}
 use mathlib.Core.Bool.{Bool, true, false, false≢true}
 use mathlib.Core.Logic.{_↔_}
 use mathlib.Core.List.{List}
@@ -49,12 +49,6 @@ each-all P i n l h = (λ e j k. h j (omega arith), λ g. refl)
 
 pub each-not : (P : ℕ → Type 0) (i n : ℕ) → i < n → (P i → ⊥) → (false ≡ true) ↔ Each P n
 each-not P i n l h = (λ e. absurd (false≢true e), λ g. absurd (h (g i l)))
-
--- ---- a test's outcome
-
--- it says no
-pub not-so : {P : Type 0} (r : Bool) → (r ≡ true) ↔ P → r ≡ false → P → ⊥
-not-so r p e q = false≢true (sym e ∙ p .1 q)
 
 -- ---- the kinds
 

@@ -7,6 +7,7 @@ use mathlib.Core.Option.{some}
 use Prim.Native.Nat.{ℕ, _<_}
 use native.Mathlib.Omega.{arith}
 use lib.ListN.{length}
+use Rattle.marks.proofs.Cases.{refuted}
 use Rattle.table.specs.declared.Acceptance.{Acceptance}
 use Rattle.table.specs.Table.{Walk, marksOf}
 use Rattle.answer_check.specs.declared.Fault.the-variants as fault
@@ -19,7 +20,6 @@ use Rattle.answer_check.specs.declared.lasso.Turned.the-variants as turn
 use Rattle.answer_check.specs.Fault.{Breaks, Meets, Judged}
 use Rattle.answer_form.specs.Given.{listGiven}
 use Rattle.answer_check.specs.inner.{Lies, Stands, Named, KnotSays, outset, afresh, Through, WalkedSays, WalkSays, Closes, TurnedSays}
-use Rattle.answer_check.proofs.Conditions.{not-so}
 use Rattle.answer_check.proofs.Going.{none-union}
 
 no-edges : (es : List ℕ) → length es ≡ 0 → es ≡ []
@@ -87,7 +87,7 @@ module _ (g : Named) (c : Acceptance) (needs : List ℕ) (pair : ℕ) where
     meets-not t =
         record {
           lasso = record { knot = C .knot; leads = C .leads; closes = C .closes; turns = C .turns };
-          unmet = λ m. not-so r p t (subst (λ (M : ℕ). Meets c needs M pair) (sym (C .marks)) m);
+          unmet = λ m. refuted r p t (subst (λ (M : ℕ). Meets c needs M pair) (sym (C .marks)) m);
           position = refl;
         }
 

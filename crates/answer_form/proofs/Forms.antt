@@ -24,7 +24,7 @@ use Rattle.answer_form.specs.declared.RunValues.{RunValues}
 use Rattle.answer_form.specs.Form.{refused, empty}
 use Rattle.answer_form.specs.Given.{startsWith, valueThen, ValueAt, step, steps, listGiven, isSome, pairGiven, thenPrefix, thenCycle, thenPlace, thenColumn, refusedTail, emptyTail, runText, ValuesAt, whereGiven, refusedGiven, emptyGiven}
 use Rattle.answer_form.proofs.Digits.{some-same}
-use Rattle.answer_form.proofs.Lists.{same-is}
+use Rattle.job_values.proofs.Spoken.{same-is}
 
 -- ---- a word
 

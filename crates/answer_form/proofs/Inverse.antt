@@ -4,7 +4,7 @@ use mathlib.Core.Path.{_≡_, refl, sym, ap, _∙_}
 use mathlib.Core.Bool.{Bool, true, false, false≢true, cond}
 use mathlib.Core.List.{List, [], _∷_, _++_, append-assoc}
 use mathlib.Core.Option.{Option, some, none}
-use Prim.Native.Nat.{ℕ, suc, _+_, _≤_}
+use Prim.Native.Nat.{ℕ, _≤_}
 use native.Mathlib.Omega.{arith}
 use lib.Dec.{eqb}
 use lib.ListN.{length, take, drop, take-append-drop}
@@ -19,8 +19,12 @@ use Rattle.job_text.proofs.Text.{byTest}
 use Rattle.answer_text.specs.Printed.{shown, verdict=, code=, place=, column=, pair=, depth=, prefix=, cycle=, verdictWord, isRabin, pairText, listText, headText, topText, bottomText, answerText}
 use Rattle.answer_form.specs.Form.{Said, run, empty, refused, verdictOf, columnOf, depthOf, roomOf, Ours, Says, Malformed}
 use Rattle.answer_form.specs.Given.{startsWith, Cut, valueThen, listGiven, pairGiven, runHead, thenPrefix, thenCycle, refusedHead, thenPlace, thenColumn, refusedTail, emptyHead, emptyTail, over, RunText, runText, runOf, runGiven, Where, whereGiven, refusedGiven, emptyGiven, given}
-use Rattle.answer_form.proofs.Digits.{none-some, some-same, after, passed, High, high-less, decimal-high, number-decimal, decimal-number}
-use Rattle.answer_form.proofs.Lists.{same-refl, same-is, list-read, read-list, list-high}
+use Rattle.puts.proofs.Over.{Over, decimal-over}
+use Rattle.job_values.proofs.Decimals.{number-decimal, ahead-over}
+use Rattle.job_values.proofs.Fields.{ahead-append}
+use Rattle.job_values.proofs.Spoken.{same-refl, same-is}
+use Rattle.answer_form.proofs.Digits.{none-some, some-same, after, passed, decimal-number}
+use Rattle.answer_form.proofs.Lists.{list-read, read-list, list-over}
 
 -- ---- a word in front, and a value before it
 
@@ -32,12 +36,10 @@ starts-back word xs t =
     sym (take-append-drop (length word) xs) ∙ ap (λ (l : List ℕ). l ++ drop (length word) xs) (same-is (take (length word) xs) word t)
 
 -- no newline byte in the value: the first one stands behind it
-ahead-there : (v rest : List ℕ) → High 11 v → ahead newline (v ++ (newline ∷ rest)) ≡ length v
-unfolding ahead
-ahead-there [] rest h = refl
-ahead-there (x ∷ v) rest h = rw (ne-eqb x newline (λ (e : x ≡ newline). omega (arith, h .0))) (ap suc (ahead-there v rest (h .1)))
+ahead-there : (v rest : List ℕ) → Over newline v → ahead newline (v ++ (newline ∷ rest)) ≡ length v
+ahead-there v rest h = ahead-append newline v rest (ahead-over newline v h)
 
-value-there : (w v rest : List ℕ) → High 11 v → valueThen (newline ∷ w) (v ++ ((newline ∷ w) ++ rest)) ≡ some (record { value = v; rest = rest })
+value-there : (w v rest : List ℕ) → Over newline v → valueThen (newline ∷ w) (v ++ ((newline ∷ w) ++ rest)) ≡ some (record { value = v; rest = rest })
 unfolding valueThen
 value-there w v rest h =
     rw (
@@ -154,20 +156,17 @@ refused-not-run : (rest : List ℕ) → startsWith runHead (refusedHead ++ rest)
 unfolding same decimalIn
 refused-not-run rest = refl
 
-dash-high : High 11 dash
-dash-high = (omega arith, tt)
+dash-over : Over newline dash
+dash-over = (omega arith, tt)
 
-pair-high : (rabin : Bool) (pair : ℕ) → High 11 (cond rabin (decimal pair) dash)
-pair-high true pair = high-less 48 11 (omega arith) (decimal pair) (decimal-high pair)
-pair-high false pair = dash-high
+pair-over : (rabin : Bool) (pair : ℕ) → Over newline (cond rabin (decimal pair) dash)
+pair-over true pair = decimal-over newline pair (omega arith)
+pair-over false pair = dash-over
 
 pair-read : (rabin : Bool) (pair : ℕ) → pair ≤ mostNumber → (rabin ≡ false → pair ≡ 0) → pairGiven rabin (cond rabin (decimal pair) dash) ≡ some pair
 unfolding pairGiven
 pair-read true pair l z = number-decimal pair l
 pair-read false pair l z = rw (same-refl dash) (ap some (sym (z refl)))
-
-list-high-11 : (es : List ℕ) → High 11 (listText es)
-list-high-11 es = high-less 44 11 (omega arith) (listText es) (list-high es)
 
 run-read : (rabin : Bool) (pair : ℕ) (p q : List ℕ) → pairGiven rabin (cond rabin (decimal pair) dash) ≡ some pair → listGiven (listText p) ≡ some p → listGiven (listText q) ≡ some q
     → runGiven rabin (behindRun (cond rabin (decimal pair) dash) (listText p) (listText q)) ≡ some (run pair p q)
@@ -175,9 +174,9 @@ unfolding runText
 run-read rabin pair p q e f g =
     let pt = cond rabin (decimal pair) dash in
     rw (
-      value-there (noDepth ++ prefix=) pt (listText p ++ (thenCycle ++ (listText q ++ ((newline ∷ []) ++ [])))) (pair-high rabin pair),
-      value-there cycle= (listText p) (listText q ++ ((newline ∷ []) ++ [])) (list-high-11 p),
-      value-there [] (listText q) [] (list-high-11 q),
+      value-there (noDepth ++ prefix=) pt (listText p ++ (thenCycle ++ (listText q ++ ((newline ∷ []) ++ [])))) (pair-over rabin pair),
+      value-there cycle= (listText p) (listText q ++ ((newline ∷ []) ++ [])) (list-over p),
+      value-there [] (listText q) [] (list-over q),
       e,
       f,
       g,
@@ -187,8 +186,8 @@ where-read : (p k : ℕ) → p ≤ mostNumber → k ≤ mostNumber → whereGive
 unfolding whereGiven
 where-read p k l h =
     rw (
-      value-there column= (decimal p) (decimal k ++ (refusedTail ++ [])) (high-less 48 11 (omega arith) (decimal p) (decimal-high p)),
-      value-there (shown pair= dash ++ (noDepth ++ (shown prefix= dash ++ shown cycle= dash))) (decimal k) [] (high-less 48 11 (omega arith) (decimal k) (decimal-high k)),
+      value-there column= (decimal p) (decimal k ++ (refusedTail ++ [])) (decimal-over newline p (omega arith)),
+      value-there (shown pair= dash ++ (noDepth ++ (shown prefix= dash ++ shown cycle= dash))) (decimal k) [] (decimal-over newline k (omega arith)),
       number-decimal p l,
       number-decimal k h,
     )
@@ -197,7 +196,7 @@ refused-read : (n p k : ℕ) → n ≤ mostNumber → p ≤ mostNumber → k ≤
 unfolding refusedGiven
 refused-read n p k l h g =
     rw (
-      value-there place= (decimal n) (behindPlace (decimal p) (decimal k)) (high-less 48 11 (omega arith) (decimal n) (decimal-high n)),
+      value-there place= (decimal n) (behindPlace (decimal p) (decimal k)) (decimal-over newline n (omega arith)),
       number-decimal n l,
       where-read p k h g,
     )
@@ -205,7 +204,7 @@ refused-read n p k l h g =
 empty-read : (d : ℕ) → d ≤ mostNumber → emptyGiven (behindEmpty (decimal d)) ≡ some (empty d)
 unfolding emptyGiven
 empty-read d l =
-    rw (value-there (shown prefix= dash ++ shown cycle= dash) (decimal d) [] (high-less 48 11 (omega arith) (decimal d) (decimal-high d)), number-decimal d l)
+    rw (value-there (shown prefix= dash ++ shown cycle= dash) (decimal d) [] (decimal-over newline d (omega arith)), number-decimal d l)
 
 given-run : (rabin : Bool) (rest : List ℕ) → given rabin (runHead ++ rest) ≡ runGiven rabin rest
 unfolding given

@@ -1,44 +1,42 @@
 -- A list of edges is read from its printed form, and from no other bytes. Assumes nothing.
 use mathlib.Core.Path.{_≡_, refl, sym, ap, _∙_}
-use mathlib.Core.Bool.{Bool, true, false, false≢true, cond, _&&_}
+use mathlib.Core.Bool.{true, false, cond}
 use mathlib.Core.List.{List, [], _∷_, _++_, map, append-nil}
 use mathlib.Core.Option.{some, none}
-use Prim.Native.Nat.{ℕ, zero, suc, _+_, _≤_, _<_}
+use Prim.Native.Nat.{ℕ, zero, suc, _≤_, _<_}
 use native.Mathlib.Omega.{arith}
 use lib.Dec.{eqb}
-use borrow.Author.Tests.{eq-eqb, ne-eqb, eqb-true, eqb-false}
+use borrow.Author.Tests.{ne-eqb, eqb-false}
 use Rattle.marks.proofs.Cases.{same as equal}
 use Rattle.table.specs.Table.{waiting}
 use Rattle.puts.specs.Put.{decimal}
-use Rattle.job_text.specs.Text.{comma, fields, longerField, same}
+use Rattle.puts.proofs.Decimals.{decimal-led}
+use Rattle.puts.proofs.Over.{Over, over-both, over-less, over-test, decimal-over}
+use Rattle.job_values.proofs.Cut.{fields-some}
+use Rattle.job_values.proofs.Decimals.{number-decimal, field-over, last-over}
+use Rattle.job_values.proofs.Edges.{joined, joined-fields}
+use Rattle.job_values.proofs.Spoken.{same-refl, same-is}
+use Rattle.job_text.specs.Text.{newline, comma, fields, same}
 use Rattle.job_text.specs.Value.{andThen, dash, mostNumber, number}
 use Rattle.job_text.proofs.Text.{byTest}
 use Rattle.answer_text.specs.Printed.{stop, stepText, furtherText, listText}
 use Rattle.answer_text.proofs.Prints.{step-stop, step-number}
 use Rattle.answer_form.specs.Form.{Within}
 use Rattle.answer_form.specs.Given.{step, steps, listGiven}
-use Rattle.answer_form.proofs.Digits.{some-same, after, unhindered, High, high-append, high-less, decimal-high, Begun, decimal-begun, number-decimal, decimal-number}
+use Rattle.answer_form.proofs.Digits.{some-same, after, unhindered, decimal-number}
 
--- ---- the same bytes
+-- ---- the first byte
 
-pub same-refl : (xs : List ℕ) → same xs xs ≡ true
-unfolding same
-same-refl [] = refl
-same-refl (x ∷ xs) = rw (eq-eqb x x refl) (same-refl xs)
+-- the first byte stands from low to high
+record Begun (low high : ℕ) (xs : List ℕ) : Type 0 where
+  first : ℕ
+  others : List ℕ
+  is : xs ≡ first ∷ others
+  least : low ≤ first
+  most : first ≤ high
 
-both : (a b : Bool) → (a && b) ≡ true → (a ≡ true) × (b ≡ true)
-both true b e = (refl, e)
-both false b e = absurd (false≢true e)
-
-pub same-is : (xs ys : List ℕ) → same xs ys ≡ true → xs ≡ ys
-unfolding same
-same-is [] [] e = refl
-same-is [] (y ∷ ys) e = absurd (false≢true e)
-same-is (x ∷ xs) [] e = absurd (false≢true e)
-same-is (x ∷ xs) (y ∷ ys) e =
-    let g = both (eqb x y) (same xs ys) e in
-    let h : x ≡ y = eqb-true x y (g .0) in
-    rw (h, same-is xs ys (g .1))
+decimal-begun : (n : ℕ) → Begun 48 57 (decimal n)
+decimal-begun n = let led = decimal-led n in record { first = led .first; others = led .others; is = led .is; least = led .least; most = led .most }
 
 -- another first byte
 other-first : (xs : List ℕ) (low high y : ℕ) (ys : List ℕ) → Begun low high xs → (y < low) → same xs (y ∷ ys) ≡ false
@@ -51,11 +49,9 @@ later-first xs low high y ys B l = rw (B .is, ne-eqb (B .first) y (λ (e : B .fi
 
 -- ---- one edge
 
-stop-high : High 48 stop
-stop-high = (omega arith, (omega arith, (omega arith, (omega arith, tt))))
-
-pub step-high : (e : ℕ) → High 48 (stepText e)
-step-high e = equal e waiting (λ q. rw (step-stop e q) stop-high) (λ h. rw (step-number e h) (decimal-high e))
+pub step-over : (b e : ℕ) → b < 48 → Over b (stepText e)
+step-over b e l =
+    equal e waiting (λ q. rw (step-stop e q) (over-less 47 b (omega arith) stop (over-test 47 stop refl))) (λ h. rw (step-number e h) (decimal-over b e l))
 
 step-begun : (e : ℕ) → Begun 48 115 (stepText e)
 step-begun e =
@@ -92,57 +88,10 @@ read-step bs e r =
 
 -- ---- fields
 
--- a field without a comma, and what follows it
-field-one : (xs : List ℕ) → High 48 xs → fields xs ≡ xs ∷ []
-unfolding fields
-field-one [] h = refl
-field-one (x ∷ xs) h = rw (ne-eqb x comma (λ (e : x ≡ comma). omega (arith, h .0)), field-one xs (h .1))
-
-field-then : (xs ys : List ℕ) → High 48 xs → fields (xs ++ (comma ∷ ys)) ≡ xs ∷ fields ys
-unfolding fields
-field-then [] ys h = refl
-field-then (x ∷ xs) ys h = rw (ne-eqb x comma (λ (e : x ≡ comma). omega (arith, h .0)), field-then xs ys (h .1))
-
 fields-list : (e : ℕ) (es : List ℕ) → fields (stepText e ++ furtherText es) ≡ stepText e ∷ map stepText es
 unfolding furtherText
-fields-list e [] = rw (append-nil (stepText e)) (field-one (stepText e) (step-high e))
-fields-list e (d ∷ es) = field-then (stepText e) (stepText d ++ furtherText es) (step-high e) ∙ ap {B = List (List ℕ)} (λ fs. stepText e ∷ fs) (fields-list d es)
-
--- fields with their commas: the bytes again
-abbrev more : List (List ℕ) → List ℕ
-more [] = []
-more (f ∷ fs) = (comma ∷ f) ++ more fs
-
-abbrev joined : List (List ℕ) → List ℕ
-joined [] = []
-joined (f ∷ fs) = f ++ more fs
-
-joined-longer : (b : ℕ) (fs : List (List ℕ)) → joined (longerField b fs) ≡ b ∷ joined fs
-joined-longer b [] = refl
-joined-longer b (f ∷ fs) = refl
-
-joined-next : (fs : List (List ℕ)) → (fs ≡ [] → ⊥) → more fs ≡ comma ∷ joined fs
-joined-next [] h = absurd (h refl)
-joined-next (f ∷ fs) h = refl
-
-some-field : (bs : List ℕ) → fields bs ≡ [] → ⊥
-unfolding fields
-some-field [] e = let z : _≡_ {A = ℕ} 0 1 = cc in omega arith
-some-field (b ∷ bs) e =
-    byTest (eqb b comma) (λ t. let q : [] ∷ fields bs ≡ [] = rw t at e in let z : _≡_ {A = ℕ} 0 1 = cc in omega arith)
-    (λ t. longer-some (fields bs) (rw t at e))
-  where
-    longer-some : (fs : List (List ℕ)) → longerField b fs ≡ [] → ⊥
-    longer-some [] q = let z : _≡_ {A = ℕ} 0 1 = cc in omega arith
-    longer-some (f ∷ fs) q = let z : _≡_ {A = ℕ} 0 1 = cc in omega arith
-
-fields-joined : (bs : List ℕ) → joined (fields bs) ≡ bs
-unfolding fields
-fields-joined [] = refl
-fields-joined (b ∷ bs) =
-    byTest (eqb b comma)
-    (λ t. let q : b ≡ comma = eqb-true b comma t in rw t (joined-next (fields bs) (some-field bs) ∙ rw (fields-joined bs, q)))
-    (λ t. rw t (joined-longer b (fields bs) ∙ ap {B = List ℕ} (λ l. b ∷ l) (fields-joined bs)))
+fields-list e [] = rw (append-nil (stepText e)) (last-over (stepText e) (step-over comma e (omega arith)))
+fields-list e (d ∷ es) = field-over (stepText e) (stepText d ++ furtherText es) (step-over comma e (omega arith)) ∙ ap {B = List (List ℕ)} (λ fs. stepText e ∷ fs) (fields-list d es)
 
 -- ---- lists of edges
 
@@ -199,14 +148,14 @@ unfolding listGiven
 list-read [] w = rw dash-dash
 list-read (e ∷ es) w = rw (no-dash e es, fields-list e es) (steps-read (e ∷ es) w)
 
-more-steps : (es : List ℕ) → more (map stepText es) ≡ furtherText es
+joined-steps : (e : ℕ) (es : List ℕ) → joined (map stepText (e ∷ es)) ≡ listText (e ∷ es)
 unfolding furtherText
-more-steps [] = refl
-more-steps (e ∷ es) = ap (λ (l : List ℕ). (comma ∷ stepText e) ++ l) (more-steps es)
+joined-steps e [] = sym (append-nil (stepText e))
+joined-steps e (d ∷ es) = ap (λ (l : List ℕ). stepText e ++ (comma ∷ l)) (joined-steps d es)
 
-joined-steps : (fs : List (List ℕ)) (es : List ℕ) → (fs ≡ [] → ⊥) → fs ≡ map stepText es → joined fs ≡ listText es
-joined-steps fs [] h q = absurd (h q)
-joined-steps fs (e ∷ es) h q = rw q (ap (λ (l : List ℕ). stepText e ++ l) (more-steps es))
+joined-list : (fs : List (List ℕ)) (es : List ℕ) → (fs ≡ [] → ⊥) → fs ≡ map stepText es → joined fs ≡ listText es
+joined-list fs [] h q = absurd (h q)
+joined-list fs (e ∷ es) h q = rw q (joined-steps e es)
 
 pub read-list : (bs es : List ℕ) → listGiven bs ≡ some es → (bs ≡ listText es) × Within es
 unfolding listGiven
@@ -215,14 +164,14 @@ read-list bs es r =
     (λ t. let q : [] ≡ es = some-same (rw t at r) in (same-is bs dash t ∙ ap listText q, rw (sym q) (λ i. omega arith)))
     (λ t.
     let g = read-steps (fields bs) es (rw t at r) in
-    (sym (fields-joined bs) ∙ joined-steps (fields bs) es (some-field bs) (g .0), g .1))
+    (sym (joined-fields bs) ∙ joined-list (fields bs) es (fields-some bs) (g .0), g .1))
 
 -- a list's bytes are no newline bytes
-further-high : (es : List ℕ) → High 44 (furtherText es)
+further-over : (es : List ℕ) → Over newline (furtherText es)
 unfolding furtherText
-further-high [] = tt
-further-high (e ∷ es) = (omega arith, high-append 44 (stepText e) (furtherText es) (high-less 48 44 (omega arith) (stepText e) (step-high e)) (further-high es))
+further-over [] = tt
+further-over (e ∷ es) = (omega arith, over-both newline (stepText e) (furtherText es) (step-over newline e (omega arith)) (further-over es))
 
-pub list-high : (es : List ℕ) → High 44 (listText es)
-list-high [] = (omega arith, tt)
-list-high (e ∷ es) = high-append 44 (stepText e) (furtherText es) (high-less 48 44 (omega arith) (stepText e) (step-high e)) (further-high es)
+pub list-over : (es : List ℕ) → Over newline (listText es)
+list-over [] = (omega arith, tt)
+list-over (e ∷ es) = over-both newline (stepText e) (furtherText es) (step-over newline e (omega arith)) (further-over es)

@@ -8,9 +8,8 @@ use job_values::part::find;
 use puts::clear;
 use puts::put_held;
 use puts::put_word;
-ghost use mathlib.Core.Path.{_≡_};
 ghost use Prim.Native.Nat.{_+_, _≤_, _<_, _^_};
-ghost use Rattle.puts.specs.Put.{Put, PutFew};
+ghost use Rattle.puts.specs.Put.{PutFew};
 ghost use Rattle.check_text.specs.Replied.{topText, faultLines, checkedText, CheckReplied};
 ghost use Rattle.check_text.specs.inner.{JobEnds, HeardTo, Slight};
 

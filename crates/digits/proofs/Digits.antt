@@ -19,6 +19,9 @@ under low high b l = rw (lt-leb low b l)
 pub over : (low high b : ℕ) → high < b → between low high b ≡ false
 over low high b h = below b low (under low high b) (λ l. rw (le-leb low b l, lt-leb b high h))
 
+low-end : (low high b : ℕ) → between low high b ≡ true → low ≤ b
+low-end low high b e = below b low (λ l. absurd (false≢true (sym (under low high b l) ∙ e))) (λ l. l)
+
 high-end : (low high b : ℕ) → between low high b ≡ true → b ≤ high
 high-end low high b e = below high b (λ l. absurd (false≢true (sym (over low high b l) ∙ e))) (λ l. l)
 
@@ -36,6 +39,17 @@ unfolding digit
 digit-below b d e =
     let g : (between 48 57 b ≡ true) × (b - 48 ≡ d) = gives (between 48 57 b) (b - 48) d e in
     omega (arith, high-end 48 57 b (g .0), g .1)
+
+-- the byte of a digit, and no other byte, is worth it
+pub digit-is : (d : ℕ) → d < 10 → digit (48 + d) ≡ some d
+unfolding digit
+digit-is d l = let e : 48 + d - 48 ≡ d = omega arith in rw (within 48 57 (48 + d) (omega arith) (omega arith), e)
+
+pub digit-from : (b d : ℕ) → digit b ≡ some d → b ≡ 48 + d
+unfolding digit
+digit-from b d e =
+    let g : (between 48 57 b ≡ true) × (b - 48 ≡ d) = gives (between 48 57 b) (b - 48) d e in
+    omega (arith, low-end 48 57 b (g .0), g .1)
 
 pub hex-below : (b d : ℕ) → hexDigit b ≡ some d → d < 16
 unfolding hexDigit

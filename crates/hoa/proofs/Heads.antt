@@ -8,9 +8,9 @@ use native.Mathlib.Omega.{arith}
 use lib.Dec.{eqb, ltb, leb}
 use lib.ListN.{length}
 use borrow.Author.Tests.{ltb-false, leb-false, eqb-false}
+use Rattle.marks.proofs.Cases.{either-false}
 use Rattle.table.specs.declared.Acceptance.{Acceptance}
 use Rattle.table.specs.Refusal.{used, wrongCondition}
-use Rattle.table.proofs.Sound.{either-false}
 use Rattle.job_text.specs.Job.{mostJobStates}
 use Rattle.hoa_tokens.specs.declared.Word.{Word}
 use Rattle.hoa_tokens.specs.declared.Word.the-variants as word-is

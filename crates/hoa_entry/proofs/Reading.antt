@@ -9,11 +9,12 @@ use borrow.Author.Tests.{lt-ltb, le-leb, lt-leb}
 use denote.Enum.Declared
 use lib.ListN.{length, getD}
 use types.Run.{OneOf, miss}
+use Rattle.hoa_step.proofs.Runs.{wants-int}
 use Rattle.job_text.specs.Job.{mostJobStates, mostJobEdges}
 use Rattle.hoa_tokens.specs.declared.Kind.{Kind}
 use Rattle.hoa_tokens.specs.declared.Kind.the-variants as kind-is
 use Rattle.hoa_tokens.specs.declared.Found.{Found}
-use Rattle.hoa_tokens.specs.Token.{Token, int, word, header, str, aname, sign, body, end, abort, finish, bad}
+use Rattle.hoa_tokens.specs.Token.{Token, int, finish}
 use Rattle.hoa_tokens.specs.Stream.{Placed, tokensAt, tokenOf, TokenAt}
 use Rattle.hoa_tokens.proofs.Next.{tokens-next}
 use Rattle.hoa_step.specs.declared.Given.{Given}
@@ -109,20 +110,6 @@ int-there e h = rw e at h
 pub int-missing : {text : List ℕ} {at : ℕ} {r : IntRead} {n p : ℕ} → r ≡ int-read.Refused n p → IntReads text at r → Faulty text at intFault n p
 int-missing e h = rw e at h
 
-wants-fault : {S D : Type 0} (f : ℕ → Step S D) (t : Token) (n : ℕ) → intFault t ≡ some n → wantsInt f t ≡ wrong n
-unfolding wantsInt intFault
-wants-fault f (int i) n e = cc
-wants-fault f (word w) n e = cc
-wants-fault f (header h) n e = cc
-wants-fault f (str bs) n e = cc
-wants-fault f aname n e = cc
-wants-fault f (sign s) n e = cc
-wants-fault f body n e = cc
-wants-fault f end n e = cc
-wants-fault f abort n e = cc
-wants-fault f finish n e = cc
-wants-fault f bad n e = cc
-
 -- ---- the entries that a `match` leaves
 
 abbrev notEdge : List ℕ
@@ -188,7 +175,7 @@ module _ (l : Limits) (b : Rows) (t : Token) where
   number-on-other : (e : Entry) (n : ℕ) → OneOf notEdge (Declared.tagOf entry-type.the-type e) → entryOf t ≡ e → intFault t ≡ some n
       → rowStep l (rowNumber b) t ≡ wrong n
   unfolding rowStep
-  number-on-other e n o q w = rw q (labelled-other e (wantsInt (spec.onNumber l b) t) o ∙ wants-fault (spec.onNumber l b) t n w)
+  number-on-other e n o q w = rw q (labelled-other e (wantsInt (spec.onNumber l b) t) o ∙ wants-int (spec.onNumber l b) t n w)
 
   name-on-text : entryOf t ≡ entry-is.Text → rowStep l (rowName b) t ≡ go (rowSig b)
   unfolding rowStep
@@ -221,7 +208,7 @@ module _ (l : Limits) (b : Rows) (t : Token) where
 
   target-on-other : (x n : ℕ) → intFault t ≡ some n → rowStep l (target x b) t ≡ wrong n
   unfolding rowStep
-  target-on-other x n w = wants-fault (spec.onTarget l x b) t n w
+  target-on-other x n w = wants-int (spec.onTarget l x b) t n w
 
 -- ---- a row's number
 

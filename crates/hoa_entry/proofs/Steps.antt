@@ -9,7 +9,7 @@ use Rattle.hoa_tokens.specs.declared.Kind.the-variants as kind-is
 use Rattle.hoa_tokens.specs.declared.Found.{Found}
 use Rattle.hoa_tokens.specs.Token.{Token}
 use Rattle.hoa_tokens.specs.Stream.{Placed, placed, tokensAt, tokenOf, unlessFinished, TokenAt}
-use Rattle.hoa_tokens.proofs.Next.{tokens-next, token-takes}
+use Rattle.hoa_tokens.proofs.Next.{tokens-next, token-takes, unless-kind}
 use Rattle.hoa_step.specs.Machine.{Step, End, go, done, wrong, doneAt, wrongAt, cut, endBy, run}
 use Rattle.hoa_step.specs.Wanted.{Next}
 use Rattle.hoa_label.specs.Labels as label
@@ -26,19 +26,6 @@ use Rattle.hoa_entry.proofs.Signs.{AllTake, isShut, shut-sign}
 
 -- ---- the token that is found
 
-unless : (text : List ℕ) (a b : ℕ) (k : Kind) (ps : List Placed) → (k ≡ kind-is.Finish → ⊥) → unlessFinished (tokenOf text a b k) ps ≡ ps
-unless text a b (kind-is.Int n) ps h = refl
-unless text a b (kind-is.Word w) ps h = refl
-unless text a b (kind-is.Header x) ps h = refl
-unless text a b kind-is.Quoted ps h = refl
-unless text a b kind-is.Alias ps h = refl
-unless text a b (kind-is.Sign s) ps h = refl
-unless text a b kind-is.Body ps h = refl
-unless text a b kind-is.End ps h = refl
-unless text a b kind-is.Abort ps h = refl
-unless text a b kind-is.Finish ps h = absurd (h refl)
-unless text a b kind-is.Bad ps h = refl
-
 -- a token but the text's end, and the tokens behind it
 pub moved : (text : List ℕ) (at : ℕ) (f : Found) → TokenAt text at f → (f .kind ≡ kind-is.Finish → ⊥)
     → Next text at (f .first) (f .next) (tokenOf text (f .first) (f .next) (f .kind))
@@ -48,7 +35,7 @@ moved text at f h n =
       is =
           tokens-next text at f h
           ∙ ap (λ (ps : List Placed). placed (f .first) (f .next) (tokenOf text (f .first) (f .next) (f .kind)) ∷ ps)
-          (unless text (f .first) (f .next) (f .kind) (tokensAt text (f .next)) n);
+          (unless-kind text (f .first) (f .next) (f .kind) (tokensAt text (f .next)) n);
       behind-at = m .behind-at;
       takes = m .takes;
       within = m .within;
@@ -72,7 +59,7 @@ entry-here text at f e h q =
           let no = no-end text (f .first) (f .next) (f .kind) (rw q at n) in
           let m = token-takes text at f h no in
           record {
-            is = unless text (f .first) (f .next) (f .kind) (tokensAt text (f .next)) no;
+            is = unless-kind text (f .first) (f .next) (f .kind) (tokensAt text (f .next)) no;
             onward = record { behind = omega (arith, m .behind-at, m .takes); within = m .within };
           };
     }

@@ -11,7 +11,7 @@ use Rattle.hoa_tokens.specs.declared.Kind.the-variants as kind-is
 use Rattle.hoa_tokens.specs.declared.Found.{Found}
 use Rattle.hoa_tokens.specs.Token.{Token}
 use Rattle.hoa_tokens.specs.Stream.{Placed, placed, unlessFinished, tokensAt, tokenOf, TokenAt}
-use Rattle.hoa_tokens.proofs.Next.{tokens-next, token-takes, Moves}
+use Rattle.hoa_tokens.proofs.Next.{tokens-next, token-takes, Moves, unless-kind}
 use Rattle.hoa_standard.specs.declared.Piece.{Piece}
 use Rattle.hoa_standard.specs.declared.Piece.the-variants as piece-is
 use Rattle.hoa_standard.specs.declared.Ahead.{Ahead}
@@ -55,19 +55,6 @@ piece-token text a b kind-is.End = refl
 piece-token text a b kind-is.Abort = refl
 piece-token text a b kind-is.Finish = refl
 piece-token text a b kind-is.Bad = refl
-
-unless : (text : List ℕ) (a b : ℕ) (k : Kind) (ps : List Placed) → (k ≡ kind-is.Finish → ⊥) → unlessFinished (tokenOf text a b k) ps ≡ ps
-unless text a b (kind-is.Int n) ps h = refl
-unless text a b (kind-is.Word w) ps h = refl
-unless text a b (kind-is.Header x) ps h = refl
-unless text a b kind-is.Quoted ps h = refl
-unless text a b kind-is.Alias ps h = refl
-unless text a b (kind-is.Sign s) ps h = refl
-unless text a b kind-is.Body ps h = refl
-unless text a b kind-is.End ps h = refl
-unless text a b kind-is.Abort ps h = refl
-unless text a b kind-is.Finish ps h = absurd (h refl)
-unless text a b kind-is.Bad ps h = refl
 
 -- ---- larger bounds
 
@@ -269,7 +256,7 @@ module _ (text : List ℕ) (at c : ℕ) (f : Formula) (n : Needs) (here : ℕ) (
         needs = needsNext c (f .stage) p (r .needs);
         run =
             run-says (turn-is.Go f') e
-            ∙ ap (formulaRun c (stateOf c f' (needsNext c (f .stage) p (r .needs)))) (unless text (token .first) (token .next) (token .kind) _ (not-finish f' e));
+            ∙ ap (formulaRun c (stateOf c f' (needsNext c (f .stage) p (r .needs)))) (unless-kind text (token .first) (token .next) (token .kind) _ (not-finish f' e));
         counts = k .counts (r .counts) (r .bounded);
         bounded = k .bounded (r .bounded);
         within = within-up (suc here) (token .next) f' (omega (arith, m .behind-at, m .takes)) (k .within here (r .within));

@@ -7,6 +7,7 @@ use Prim.Native.Nat.{ℕ, zero, suc, _<_}
 use native.Mathlib.Omega.{arith}
 use lib.Dec.{eqb, ltb}
 use borrow.Author.Tests.{ltb-true, eqb-true}
+use Rattle.marks.proofs.Cases.{both-true}
 use Rattle.hoa_tokens.specs.declared.Word.{Word}
 use Rattle.hoa_tokens.specs.declared.Word.the-variants as word-is
 use Rattle.hoa_tokens.specs.declared.Sign.the-variants as sign-is
@@ -102,10 +103,6 @@ tested : (t : Bool) (x s : FormulaState) → cond t (go x) (wrong 41) ≡ go s �
 tested true x s e = (refl, go-is e)
 tested false x s e = not-wrong 41 s e
 
-both-true : (a b : Bool) → a && b ≡ true → a ≡ true
-both-true true b e = refl
-both-true false b e = e
-
 wants-went : (c n d d' : ℕ) (ns : List ℕ) (g : Stage) (p : Piece) (w : Wants) (s : FormulaState) → (someWants w ≡ true → Went c n d g p d' n (operand w))
     → goWants d' n ns w ≡ go s
     → To c n d g p s
@@ -120,17 +117,13 @@ after-went c n d d' ns g p b s h e =
     let t = tested (someBehind b) (state d' n ns (after b)) s e in
     subst (λ (x : FormulaState). To c n d g p x) (t .1) (h (t .0))
 
-both-right : (a b : Bool) → a && b ≡ true → b ≡ true
-both-right true b e = e
-both-right false b e = absurd (let z : _≡_ {A = ℕ} 0 1 = cc in omega arith)
-
 named-went : (c n d : ℕ) (ns : List ℕ) (g : Stage) (p : Piece) (b : Behind) (s : FormulaState) → (n < c → someBehind b ≡ true → Went c n d g p d (suc n) (named b))
     → goNamed c d n ns b ≡ go s
     → To c n d g p s
 named-went c n d ns g p b s h e =
     let t = tested (ltb n c && someBehind b) (state d (suc n) ns (named b)) s e in
     subst (λ (x : FormulaState). To c n d g p x) (t .1)
-    (h (ltb-true n c (both-true (ltb n c) (someBehind b) (t .0))) (both-right (ltb n c) (someBehind b) (t .0)))
+    (h (ltb-true n c (both-true (ltb n c) (someBehind b) (t .0) .0)) (both-true (ltb n c) (someBehind b) (t .0) .1))
 
 joined-went : (c n d : ℕ) (ns : List ℕ) (g : Stage) (p : Piece) (w : Wants) (t : Bool) (s : FormulaState) → ltb n c ≡ t
     → (n < c → someWants w ≡ true → Went c n d g p d n (operand w))

@@ -17,7 +17,7 @@ use table::Acceptance;
 ghost use mathlib.Core.Path.{_≡_};
 ghost use Rattle.hoa_standard.specs.Formulas.{wordPiece, signPiece};
 ghost use Rattle.hoa_formula.specs.Reading.{FormulaAt};
-ghost use Rattle.hoa_formula.specs.inner.Ends.{kindPiece, ifNone, completeTo, standardRead, completeRead, pastRead, overRead};
+ghost use Rattle.hoa_formula.specs.inner.Ends.{kindPiece, ifNone, completeTo, standardRead, completeRead, overRead};
 
 // What is found: a standard formula, one with too few atoms, or why it is refused. `next` is where the token behind the formula is read again.
 pub enum FormulaFound {

@@ -3,11 +3,12 @@
 use mathlib.Core.Bool.{Bool, true, false, false≢true, cond, _&&_, _||_}
 use mathlib.Core.List.{List, [], _∷_, _++_}
 use mathlib.Core.Path.{_≡_, refl, sym, ap, subst, _∙_}
-use Prim.Native.Nat.{ℕ, zero, suc, _+_, _/_, _≤_, _<_, zero-le}
+use Prim.Native.Nat.{ℕ, zero, suc, _/_, _≤_, _<_, zero-le}
 use native.Mathlib.Omega.{arith}
 use borrow.Author.Tests.{leb-true}
 use lib.Dec.{leb, ltb}
 use lib.ListN.{length}
+use Rattle.marks.proofs.Cases.{both-true}
 use Rattle.table.specs.declared.Acceptance.{Acceptance}
 use Rattle.table.specs.declared.Acceptance.the-variants as acceptance
 use Rattle.hoa_tokens.specs.declared.Word.{Word}
@@ -25,19 +26,16 @@ use Rattle.hoa_standard.specs.Standard.{
   Infop,
   infsText,
   infopText,
-  infsEnd,
   infopEnd,
   Pair,
   Phead,
   pairText,
   pheadText,
-  pairEnd,
   pheadEnd,
   Rabin,
   Rabop,
   rabinText,
   rabopText,
-  rabinEnd,
   rabopEnd,
   Single,
   Spair,
@@ -52,13 +50,10 @@ use Rattle.hoa_standard.specs.Standard.{
   truthText,
   Std,
   stdText,
-  IsStd,
-  stdMeaning,
   both,
   either,
   left,
   right,
-  atom,
 }
 use Rattle.hoa_standard.specs.Machines.{RabinWants, RabinBehind, StreettWants, Bare, TruthBehind, Wants, Behind, buchiDone, rabinDone, streettDone, bareDone}
 use Rattle.hoa_standard.specs.Formulas as formula
@@ -258,10 +253,6 @@ lost-bare : (n : ℕ) (x : Bare) → mostPairs ≤ n → BareInf n x → x ≡ B
 lost-bare n Bare.lost l h = refl
 lost-bare n (Bare.fin x) l h = absurd h
 lost-bare n (Bare.inf x) l h = absurd (omega arith)
-
-both-true : (x y : Bool) → x && y ≡ true → (x ≡ true) × (y ≡ true)
-both-true true y e = (refl, e)
-both-true false y e = absurd (false≢true e)
 
 opens-nine : (n : ℕ) (w : Wants) (r : RabinWants) → leb mostPairs n && opensPair r ≡ true → BesideWants n r w → OnlyWants w × NineWants n r
 opens-nine n w RabinWants.lost e h = absurd (false≢true (both-true (leb mostPairs n) false e .1))

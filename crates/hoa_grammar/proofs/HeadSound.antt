@@ -1,6 +1,6 @@
 -- What is walked from the header's first token to behind `--BODY--` is a header of the subset (`sound`). Each admitted token puts a piece in front of what is
 -- left. Assumes nothing.
-use mathlib.Core.Bool.{Bool, true, false, false≢true, cond, not, _||_}
+use mathlib.Core.Bool.{Bool, true, false, cond, not, _||_}
 use mathlib.Core.List.{List, [], _∷_}
 use mathlib.Core.Option.{Option, some, none}
 use mathlib.Core.Path.{_≡_, refl, sym, ap, subst, _∙_}
@@ -9,6 +9,7 @@ use native.Mathlib.Omega.{arith}
 use borrow.Author.Tests.{ltb-false, leb-false, eqb-false, not-false}
 use lib.Dec.{eqb, ltb, leb}
 use lib.ListN.{length}
+use Rattle.marks.proofs.Cases.{either-false}
 use Rattle.hoa_tokens.specs.declared.Word.{Word}
 use Rattle.hoa_tokens.specs.declared.Word.the-variants as word-is
 use Rattle.hoa_tokens.specs.declared.Header.{Header}
@@ -46,8 +47,6 @@ use Rattle.hoa_value.specs.Heading.{
   hints,
   HeadStep,
   pieceOf,
-  pieceHeader,
-  pieceSign,
   headStep,
   onPiece,
   onItem,
@@ -59,7 +58,6 @@ use Rattle.hoa_value.specs.Heading.{
   onProps,
   onNames,
   onName,
-  behindNames,
   unfinished,
   nameCame,
   onMarks,
@@ -69,9 +67,7 @@ use Rattle.hoa_value.specs.Heading.{
   onToolMore,
   onHints,
   onOpening,
-  openingHeader,
   onVersion,
-  versionWord,
 }
 use Rattle.hoa_grammar.specs.Doc as doc
 use Rattle.hoa_grammar.specs.Doc.{Conj, Hint, hintWord, hintInt, Extra, extraWord, extraInt, extraText, Item, itemText, itemsText, hintsText, extrasText, wordsText, stringsText, perhapsText}
@@ -361,11 +357,6 @@ module _ (final : Head) (left : List Token) (formula-sound : FormulaSound) where
   passed-once true s ts more e = never _ _ e
   passed-once false s ts more e = (refl, e)
 
-  -- of two tests that do not hold
-  neither : (a b : Bool) → a || b ≡ false → (a ≡ false) × (b ≡ false)
-  neither true b e = absurd (false≢true (sym e))
-  neither false b e = (refl, e)
-
   -- ---- what is left, by where the header stands
 
   -- items that fit behind h, `--BODY--`, and what is left
@@ -607,7 +598,7 @@ module _ (final : Head) (left : List Token) (formula-sound : FormulaSound) where
   unfolding itemsText AllLimits
   sound-body h t ts q e =
       let p = passed (not (isGiven (h .start)) || not (isGiven (h .marks))) 41 (done h) ts (λ u. walk headStep ts u) e in
-      let n = neither (not (isGiven (h .start))) (not (isGiven (h .marks))) (p .0) in
+      let n = either-false (not (isGiven (h .start))) (not (isGiven (h .marks))) (p .0) in
       let f : h ≡ final = over-head h final ts left (p .1) in
       record {
         is = [];
@@ -678,7 +669,7 @@ module _ (final : Head) (left : List Token) (formula-sound : FormulaSound) where
     sound-states e =
         let i = wants-int (onStates h) t ts _ e in
         let p = passed (eqb (intIn t) 0 || notAbove (intIn t) (h .start)) 41 _ ts _ (i .1) in
-        let n = neither (eqb (intIn t) 0) (notAbove (intIn t) (h .start)) (p .0) in
+        let n = either-false (eqb (intIn t) 0) (notAbove (intIn t) (h .start)) (p .0) in
         let q = passed (ltb mostJobStates (intIn t)) 42 (go (items (withStates (intIn t) h))) ts (λ u. walk headStep ts u) (p .1) in
         record {
           n = intIn t;
@@ -805,19 +796,19 @@ module _ (final : Head) (left : List Token) (formula-sound : FormulaSound) where
     -- names that are new behind one more are new, and differ from it
     fewer-seen : (n : List ℕ) (seen ns : List (List ℕ)) → New (n ∷ seen) ns → New seen ns
     fewer-seen n seen [] eachNone = eachNone
-    fewer-seen n seen (m ∷ ns) (eachMore e es) = eachMore {x = m} (neither (same m n) (nameCame m seen) e .1) (fewer-seen n seen ns es)
+    fewer-seen n seen (m ∷ ns) (eachMore e es) = eachMore {x = m} (either-false (same m n) (nameCame m seen) e .1) (fewer-seen n seen ns es)
 
     each-differs : (n : List ℕ) (seen ns : List (List ℕ)) → New (n ∷ seen) ns → Each (λ m. n ≡ m → ⊥) ns
     each-differs n seen [] eachNone = eachNone
     each-differs n seen (m ∷ ns) (eachMore e es) =
-        eachMore {x = m} (λ q. ne-same m n (neither (same m n) (nameCame m seen) e .0) (sym q)) (each-differs n seen ns es)
+        eachMore {x = m} (λ q. ne-same m n (either-false (same m n) (nameCame m seen) e .0) (sym q)) (each-differs n seen ns es)
 
     sound-new-name : (a : ℕ) (seen : List (List ℕ)) (bs : List ℕ) → t ≡ str bs → walkBy (onName a seen h bs) ts (λ u. walk headStep ts u) ≡ over final left
         → length seen ≤ a → NamesLeft a seen h (t ∷ ts)
     unfolding Behind Left stringsText
     sound-new-name a seen bs q e l =
         let p = passed (leb a (length seen) || nameCame bs seen) 41 (go (names a (bs ∷ seen) h)) ts (λ u. walk headStep ts u) e in
-        let n = neither (leb a (length seen)) (nameCame bs seen) (p .0) in
+        let n = either-false (leb a (length seen)) (nameCame bs seen) (p .0) in
         let r = behind (names a (bs ∷ seen) h) (p .1) (leb-false a (length seen) (n .0)) in
         record {
           ns = bs ∷ r .ns;

@@ -1,20 +1,12 @@
 -- The same bytes: the test says whether they are equal. Assumes nothing.
-use mathlib.Core.Bool.{Bool, true, false, false≢true, _&&_}
+use mathlib.Core.Bool.{Bool, true, false, false≢true}
 use mathlib.Core.List.{List, [], _∷_}
 use mathlib.Core.Path.{_≡_, refl, sym, _∙_}
 use Prim.Native.Nat.{ℕ}
 use borrow.Author.Tests.{eqb-true, eq-eqb}
 use lib.Dec.{eqb}
+use Rattle.marks.proofs.Cases.{both-true}
 use Rattle.hoa_tokens.specs.Bytes.{same}
-
--- both tests hold
-first-true : (x y : Bool) → x && y ≡ true → x ≡ true
-first-true true y e = refl
-first-true false y e = absurd (false≢true e)
-
-second-true : (x y : Bool) → x && y ≡ true → y ≡ true
-second-true true y e = e
-second-true false y e = absurd (false≢true e)
 
 -- what is not true is false
 refuted : (x : Bool) → (x ≡ true → ⊥) → x ≡ false
@@ -27,8 +19,8 @@ same-eq [] [] e = refl
 same-eq [] (y ∷ ys) e = absurd (false≢true e)
 same-eq (x ∷ xs) [] e = absurd (false≢true e)
 same-eq (x ∷ xs) (y ∷ ys) e =
-    let p : x ≡ y = eqb-true x y (first-true (eqb x y) (same xs ys) e) in
-    let q : xs ≡ ys = same-eq xs ys (second-true (eqb x y) (same xs ys) e) in
+    let p : x ≡ y = eqb-true x y (both-true (eqb x y) (same xs ys) e .0) in
+    let q : xs ≡ ys = same-eq xs ys (both-true (eqb x y) (same xs ys) e .1) in
     λ i. p i ∷ q i
 
 pub same-refl : (xs : List ℕ) → same xs xs ≡ true

@@ -24,7 +24,6 @@ use Rattle.hoa_standard.specs.Machines.{
   TruthBehind,
   Wants,
   Behind,
-  begin,
   wantsOpen,
   wantsInf,
   wantsFin,
@@ -49,9 +48,6 @@ use Rattle.hoa_standard.specs.Machines.{
   bareFin,
   bareClose,
   bareOr,
-  buchiClose,
-  truthClose,
-  rabinDone,
 }
 use Rattle.hoa_standard.specs.Formulas as formulas
 use Rattle.hoa_standard.specs.Formulas.{
@@ -67,10 +63,6 @@ use Rattle.hoa_standard.specs.Formulas.{
   number,
   after,
   state,
-  formulaBegin,
-  goWants,
-  goNamed,
-  goAfter,
   needsInf,
   needsFin,
   onOperand,
@@ -84,7 +76,6 @@ use Rattle.hoa_standard.specs.Formulas.{
   freeStep,
   opensPair,
   tooMany,
-  byDone,
   meaningOf,
 }
 

@@ -8,6 +8,7 @@ use Prim.Native.Nat.{ℕ, _<_}
 use borrow.Author.Tests.{ltb-true, leb-false, lt-ltb}
 use lib.Dec.{ltb, leb}
 use lib.ListN.{length}
+use Rattle.marks.proofs.Cases.{either-false}
 use Rattle.hoa_tokens.specs.declared.Header.the-variants as header-is
 use Rattle.hoa_tokens.specs.declared.Sign.the-variants as sign-is
 use Rattle.hoa_tokens.specs.Token.{Token, int, word, header, str, aname, sign, body, end, abort, finish, bad}
@@ -25,12 +26,10 @@ use Rattle.hoa_entry.specs.declared.Entry.the-variants as entry-is
 use Rattle.hoa_entry.specs.Sig.{sigStep, withMark, SigStep}
 use Rattle.hoa_entry.specs.Rows.{
   Rows,
-  rows,
   withRow,
   withSig,
   withEdge,
   came,
-  lastRow,
   RowState,
   entries,
   rowNumber,
@@ -54,12 +53,10 @@ use Rattle.hoa_entry.specs.Rows.{
   onSig,
   onName,
   onRowMarks,
-  shutLabel,
   onLabel,
   onTarget,
   onMore,
   onEdgeMarks,
-  closingHeader,
   onClosing,
   rowStep,
 }
@@ -76,7 +73,6 @@ use Rattle.hoa_grammar.proofs.RowTakes.{
   takesEdgeMore,
   EdgesLimit,
   TakesRow,
-  RowLimit,
   TakesRows,
   takesNoRow,
   takesRowMore,
@@ -312,11 +308,6 @@ none-is-some e = absurd (subst hasOne (sym e) tt)
 abbrev hasEdge : List EdgeTree → Type 0
 hasEdge [] = ⊥
 hasEdge (x ∷ xs) = Unit {0}
-
--- of two tests that do not hold
-neither : (a b : Bool) → a || b ≡ false → (a ≡ false) × (b ≡ false)
-neither true b e = absurd (false≢true (sym e))
-neither false b e = (refl, e)
 
 -- of two tests the second does not hold where the first does
 not-both : (a b : Bool) → a && b ≡ false → a ≡ true → b ≡ false
@@ -583,7 +574,7 @@ module _ (l : Limits) (final : Kept) (left : List Token) where
         by-number e =
             let i = wants-int (onNumber l b) t ts (onwards ts) e in
             let p = passed (notBelow (intIn t) (l .states) || came (intIn t) (b .seen)) 41 _ ts (onwards ts) (i .1) in
-            let n = neither (notBelow (intIn t) (l .states)) (came (intIn t) (b .seen)) (p .0) in
+            let n = either-false (notBelow (intIn t) (l .states)) (came (intIn t) (b .seen)) (p .0) in
             let r = passed (leb mostJobStates (intIn t)) 42 (go (rowName (withRow (intIn t) b))) ts (onwards ts) (p .1) in
             record {
               q = intIn t;

@@ -29,14 +29,11 @@ use Rattle.hoa_entry.specs.declared.Limits.{Limits}
 use Rattle.hoa_entry.specs.Sig.{sigStep, withMark}
 use Rattle.hoa_entry.specs.Rows.{
   Rows,
-  rows,
   withRow,
   withSig,
   withEdge,
-  came,
   RowState,
   entries,
-  rowNumber,
   rowName,
   rowSig,
   rowMarks,
@@ -44,11 +41,9 @@ use Rattle.hoa_entry.specs.Rows.{
   target,
   targetMore,
   edgeMarks,
-  closing,
   Kept,
   RowStep,
   entryOf,
-  fullRows,
   behindRow,
   shutLabel,
   onLabel,
@@ -59,7 +54,6 @@ use Rattle.hoa_grammar.specs.Subset.{Each, eachNone, eachMore, SigFits, 
 use Rattle.hoa_grammar.specs.Walk.{Walk, faulty, walkBy, walk}
 use Rattle.hoa_grammar.proofs.Onward.{Onward, same, limit, by-limit, onward-then, onward-more, onward-by, onward-from}
 use Rattle.hoa_grammar.proofs.RowTakes.{
-  edgeTree,
   TakesEdge,
   takesEdge,
   EdgeLimit,

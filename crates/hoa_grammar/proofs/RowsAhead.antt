@@ -1,5 +1,5 @@
 -- Rows fit one behind the other exactly if they are rows of the subset: what they say is what is kept (`says-takes`, `takes-says`). Assumes nothing.
-use mathlib.Core.Bool.{Bool, true, false, false≢true, _||_}
+use mathlib.Core.Bool.{false}
 use mathlib.Core.List.{List, [], _∷_, _++_}
 use mathlib.Core.Logic.{_⊎_, inl, inr, _↔_}
 use mathlib.Core.Path.{_≡_, refl, sym, ap, subst, _∙_}
@@ -8,6 +8,7 @@ use native.Mathlib.Omega.{arith}
 use borrow.Author.Tests.{ne-eqb, eqb-false}
 use lib.Dec.{eqb}
 use lib.ListN.{length, length-append}
+use Rattle.marks.proofs.Cases.{either-false}
 use Rattle.job_text.specs.Value.{Edge}
 use Rattle.job_text.specs.Job.{mostJobStates, mostJobEdges}
 use Rattle.hoa_label.specs.Label.{Satisfiable}
@@ -24,13 +25,11 @@ use Rattle.hoa_grammar.specs.Subset.{
   Differ,
   differNone,
   differMore,
-  SigFits,
   sigMarks,
   EdgeSays,
   EdgesSay,
   noEdges,
   moreEdges,
-  RowSays,
   RowsSay,
   noRows,
   moreRows,
@@ -47,7 +46,6 @@ use Rattle.hoa_grammar.proofs.RowTakes.{
   takesEdgeMore,
   EdgesLimit,
   TakesRow,
-  RowLimit,
   TakesRows,
   takesNoRow,
   takesRowMore,
@@ -342,18 +340,14 @@ module _ (l : Limits) (n most : ℕ) (six : l .props ≤ 6) (within : (q : ℕ) 
     pub new : Each (λ q. came q (b .seen) ≡ false) (numbersOf rs)
     pub differ : Differ (numbersOf rs)
 
-  neither : (a b : Bool) → a || b ≡ false → (a ≡ false) × (b ≡ false)
-  neither true b e = absurd (false≢true (sym e))
-  neither false b e = (refl, e)
-
   fewer-seen : (q : ℕ) (seen qs : List ℕ) → Each (λ r. came r (q ∷ seen) ≡ false) qs → Each (λ r. came r seen ≡ false) qs
   fewer-seen q seen [] eachNone = eachNone
-  fewer-seen q seen (r ∷ qs) (eachMore e es) = eachMore {x = r} (neither (eqb r q) (came r seen) e .1) (fewer-seen q seen qs es)
+  fewer-seen q seen (r ∷ qs) (eachMore e es) = eachMore {x = r} (either-false (eqb r q) (came r seen) e .1) (fewer-seen q seen qs es)
 
   each-differs : (q : ℕ) (seen qs : List ℕ) → Each (λ r. came r (q ∷ seen) ≡ false) qs → Each (λ r. q ≡ r → ⊥) qs
   each-differs q seen [] eachNone = eachNone
   each-differs q seen (r ∷ qs) (eachMore e es) =
-      eachMore {x = r} (λ z. eqb-false r q (neither (eqb r q) (came r seen) e .0) (sym z)) (each-differs q seen qs es)
+      eachMore {x = r} (λ z. eqb-false r q (either-false (eqb r q) (came r seen) e .0) (sym z)) (each-differs q seen qs es)
 
   pub rows-say : (b last : Rows) (rs : List Row) → TakesRows l b rs last → RowsSaid b rs last
   rows-say b last _ (takesNoRow e) =

@@ -12,7 +12,7 @@ use Rattle.hoa_tokens.specs.declared.Word.{Word}
 use Rattle.hoa_tokens.specs.declared.Word.the-variants as word-is
 use Rattle.hoa_tokens.specs.declared.Found.{Found}
 use Rattle.hoa_tokens.specs.Stream.{tokensAt, tokenOf, TokenAt}
-use Rattle.hoa_tokens.proofs.Next.{tokens-next}
+use Rattle.hoa_tokens.proofs.Next.{tokens-next, unless-kind}
 use Rattle.hoa_step.specs.Machine.{run}
 use Rattle.hoa_step.specs.Wanted.{Next}
 use Rattle.hoa_step.proofs.Runs.{first-goes, first-wrong}
@@ -22,7 +22,6 @@ use Rattle.hoa_value.specs.Head.{blank}
 use Rattle.hoa_value.specs.Heading.{opening, version, items, headStep, openingHeader, onOpening, versionWord, onVersion}
 use Rattle.hoa_head.specs.inner.Openings.{openingFault, openingKind, versionFault, versionKind}
 use Rattle.hoa_head.specs.inner.Openings.{OpeningRead}
-use Rattle.hoa_value.proofs.Spots.{unless-kind}
 use Rattle.hoa_value.proofs.Values.{stepBy}
 
 opening-header : (h : Header) → openingHeader h ≡ stepBy (openingFault h) version

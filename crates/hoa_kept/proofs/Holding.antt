@@ -1,17 +1,18 @@
 -- What a row and an edge change keeps the rows held. Assumes nothing.
 use mathlib.Core.Path.{_≡_, refl, sym, ap, _∙_}
 use mathlib.Core.Bool.{true, false≢true}
-use mathlib.Core.List.{List, [], _∷_, _++_, map, append-nil, map-append}
+use mathlib.Core.List.{List, [], _∷_, _++_, append-nil}
 use Prim.Native.Nat.{ℕ, zero, suc, _+_, _-_, _≤_, _<_, max}
 use native.Mathlib.Omega.{arith}
-use borrow.Author.Tests.{lt-ltb, eq-eqb, ne-eqb, eqb-true, eqb-false, ltb-true}
+use borrow.Author.Tests.{lt-ltb, eq-eqb, ne-eqb, eqb-true, ltb-true}
 use lib.Dec.{eqb, ltb}
-use lib.ListN.{length, getD, set, take, drop, replicate, length-append, length-drop, length-map, length-replicate, length-set}
+use lib.ListN.{length, getD, set, take, drop, replicate, length-append, length-drop, length-replicate, length-set}
 use lib.Seq.{take-append-le, drop-append-le, take-all, getD-set-same, getD-set-other}
+use Rattle.marks.proofs.Cases.{same}
 use Rattle.hoa_tokens.proofs.Sizes.{byTest}
-use Rattle.job_text.specs.Value.{Edge, padTo}
+use Rattle.job_text.specs.Value.{Edge}
 use Rattle.job_text.specs.Job.{mostJobStates, mostJobEdges}
-use Rattle.job_text.proofs.Pad.{pad-more}
+use Rattle.job_text.proofs.Bodies.{column-more}
 use Rattle.hoa_kept.specs.declared.held.RowsSoFar.{RowsSoFar}
 use Rattle.hoa_entry.specs.Rows.{Rows, noRows, lastRow, came, kept, withRow, withSig, withEdge}
 use Rattle.hoa_entry.specs.inner.Reads.{Listed}
@@ -51,10 +52,6 @@ holds-none start tos sets firsts ends k =
 
 -- ---- a row
 
--- by whether two states are the same
-same-state : {C : Type 0} (q i : ℕ) → (q ≡ i → C) → ((q ≡ i → ⊥) → C) → C
-same-state q i f g = byTest (eqb q i) (λ t. f (eqb-true q i t)) (λ t. g (eqb-false q i t))
-
 came-small : (q : ℕ) (seen firsts : List ℕ) → q < mostJobStates → Listed seen firsts → (x : ℕ) → came x (q ∷ seen) ≡ true → x < mostJobStates
 came-small q seen firsts l h x e =
     byTest (eqb x q) (λ t. rw (eqb-true x q t) l) (λ t. h .small x (rw t at e))
@@ -66,7 +63,7 @@ module _ (seen firsts : List ℕ) (q v : ℕ) (l : q < mostJobStates) (size : le
         small = came-small q seen firsts l h;
         marked =
             λ x m.
-            same-state x q
+            same x q
             (λ e. rw (e, eq-eqb q q refl, getD-set-same firsts q v 0 (omega arith), lt-ltb 0 v p))
             (λ n. rw (ne-eqb x q n, getD-set-other firsts q x v 0 n, h .marked x m));
       }
@@ -94,16 +91,16 @@ module _ (b : Rows) (s : RowsSoFar) (tos sets firsts ends : List ℕ) (h : Holds
         states-first = length-set firsts q (s .kept + 1) ∙ h .states-first;
         states-end = length-set ends q (s .kept) ∙ h .states-end;
         listed = listed-more (b .seen) firsts q (s .kept + 1) l (h .states-first) (h .listed) (omega arith);
-        parts = λ x. same-state x q (λ e. rw (e, f, g, y, none)) (λ n. rw (f' x n, g' x n) (h .parts x));
-        ordered = λ x. same-state x q (λ e. rw (e, f, g) (omega arith)) (λ n. rw (f' x n, g' x n) (h .ordered x));
-        within = λ x. same-state x q (λ e. rw (e, g) (omega (arith, h .kept))) (λ n. rw (g' x n) (h .within x));
-        empty = λ x. same-state x q (λ e. rw (e, f) (λ t. absurd (omega arith))) (λ n. rw (f' x n, g' x n) (h .empty x));
+        parts = λ x. same x q (λ e. rw (e, f, g, y, none)) (λ n. rw (f' x n, g' x n) (h .parts x));
+        ordered = λ x. same x q (λ e. rw (e, f, g) (omega arith)) (λ n. rw (f' x n, g' x n) (h .ordered x));
+        within = λ x. same x q (λ e. rw (e, g) (omega (arith, h .kept))) (λ n. rw (g' x n) (h .within x));
+        empty = λ x. same x q (λ e. rw (e, f) (λ t. absurd (omega arith))) (λ n. rw (f' x n, g' x n) (h .empty x));
         last = λ x xs e. let t : x ≡ q = cc in rw (t, g) (h .kept);
       })
 
 -- ---- an edge
 
-leaving-append : (q : ℕ) (xs ys : List Edge) → leaving q (xs ++ ys) ≡ leaving q xs ++ leaving q ys
+pub leaving-append : (q : ℕ) (xs ys : List Edge) → leaving q (xs ++ ys) ≡ leaving q xs ++ leaving q ys
 leaving-append q [] ys = refl
 leaving-append q (x ∷ xs) ys =
     byTest (eqb (x .from) q) (λ t. rw t (ap (λ (es : List Edge). x ∷ es) (leaving-append q xs ys))) (λ t. rw t (leaving-append q xs ys))
@@ -120,12 +117,6 @@ stays : (es : List Edge) (e : Edge) (f g : ℕ) → f ≤ g → g ≤ length es 
 stays es e f g l m =
     rw (drop-append-le f es (e ∷ []) (omega arith))
     (take-append-le (g - f) (drop f es) (e ∷ []) (omega (arith, length-drop f es)))
-
--- one cell more of a table
-column-more : (part : Edge → ℕ) (es : List Edge) (e : Edge) (cells : List ℕ) → length es < mostJobEdges → cells ≡ padTo mostJobEdges (map part es)
-    → set cells (length es) (part e) ≡ padTo mostJobEdges (map part (es ++ (e ∷ [])))
-column-more part es e cells l h =
-    rw (h, map-append part es (e ∷ []), ← length-map es part) (pad-more mostJobEdges (map part es) (part e) (omega (arith, length-map es part)))
 
 -- the last row is one of those so far
 came-last : (seen : List ℕ) → (length seen ≡ 0 → ⊥) → (came (lastRow seen) seen ≡ true) × (seen ≡ lastRow seen ∷ drop 1 seen)
@@ -181,17 +172,17 @@ module _ (b : Rows) (s : RowsSoFar) (tos sets firsts ends : List ℕ) (h : Holds
         listed = h .listed;
         parts =
             λ q.
-            same-state q i
+            same q i
             (λ t. rw (t, g, at, mine, h .parts i, old) (sym (grown es e (firstOf firsts i) (omega (arith, h .ordered i, old)))))
             (λ n. rw (g' q n, others q n, h .parts q) (sym (stays es e (firstOf firsts q) (endOf ends q) (h .ordered q) (h .within q))));
-        ordered = λ q. same-state q i (λ t. rw (t, g) (omega (arith, h .ordered i, old, at))) (λ n. rw (g' q n) (h .ordered q));
+        ordered = λ q. same q i (λ t. rw (t, g) (omega (arith, h .ordered i, old, at))) (λ n. rw (g' q n) (h .ordered q));
         within =
             λ q.
-            same-state q i (λ t. rw (t, g) (omega (arith, at, length-append es (e ∷ []))))
+            same q i (λ t. rw (t, g) (omega (arith, at, length-append es (e ∷ []))))
             (λ n. rw (g' q n) (omega (arith, h .within q, length-append es (e ∷ []))));
         empty =
             λ q.
-            same-state q i (λ t. rw t (λ z. absurd (omega (arith, ltb-true 0 (getD firsts i 0) marked)))) (λ n. rw (g' q n) (h .empty q));
+            same q i (λ t. rw t (λ z. absurd (omega (arith, ltb-true 0 (getD firsts i 0) marked)))) (λ n. rw (g' q n) (h .empty q));
         last =
             λ q qs t.
             let y : q ≡ i = ap lastRow (sym t) ∙ sym (h .row) in

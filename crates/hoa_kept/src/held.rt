@@ -1,7 +1,7 @@
 // The rows so far, and what a row and an edge add to them. Relies on nothing.
 ghost use mathlib.Core.Path.{_≡_};
-ghost use Prim.Native.Nat.{_≤_, _<_, max};
-ghost use Rattle.hoa_kept.specs.inner.Held.{Room, RowRoom, EdgeRoom, Begun, EdgeKept};
+ghost use Prim.Native.Nat.{_<_, max};
+ghost use Rattle.hoa_kept.specs.inner.Held.{RowRoom, EdgeRoom, Begun, EdgeKept};
 
 // The rows so far: how many, the last one's number and marks, how many edges are kept, and the largest of the start, the rows' numbers and the
 // targets. Beside them stand the kept edges' targets and marks, in the text's order, and for each state one more than its first edge's index (0: it

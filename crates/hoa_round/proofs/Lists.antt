@@ -8,6 +8,7 @@ use lib.Dec.{eqb}
 use lib.ListN.{length, getD, length-append}
 use Rattle.table.proofs.Rows.{Sorted}
 use Rattle.job_text.specs.Value.{Edge}
+use Rattle.hoa_kept.proofs.Holding.{leaving-append}
 use Rattle.hoa_kept.specs.Sorted.{leaving, sorted}
 use Rattle.hoa_written.proofs.Back.{upTo, leavingTo, byState, edges-by-state}
 use Rattle.hoa_grammar.specs.Subset.{Each, eachNone, eachMore, Differ, differNone, differMore}
@@ -62,16 +63,6 @@ module _ (from to marks : List ℕ) where
   pub edges-up : (k : ℕ) → edgesTo from to marks k ≡ upTo (edgeOf from to marks) k
   edges-up zero = refl
   edges-up (suc k) = ap (λ (es : List Edge). es ++ (edgeOf from to marks k ∷ [])) (edges-up k)
-
-  -- those that leave q, of two lists
-  leaving-append : (q : ℕ) (es fs : List Edge) → leaving q (es ++ fs) ≡ leaving q es ++ leaving q fs
-  leaving-append q [] fs = refl
-  leaving-append q (e ∷ es) fs = by (eqb (e .from) q) (leaving-append q es fs)
-    where
-      by : (b : Bool) → leaving q (es ++ fs) ≡ leaving q es ++ leaving q fs
-          → cond b (e ∷ leaving q (es ++ fs)) (leaving q (es ++ fs)) ≡ cond b (e ∷ leaving q es) (leaving q es) ++ leaving q fs
-      by true h = ap (λ (xs : List Edge). e ∷ xs) h
-      by false h = h
 
   -- those of the edges below k
   leaving-up : (q k : ℕ) → leaving q (upTo (edgeOf from to marks) k) ≡ leavingTo (edgeOf from to marks) from q k

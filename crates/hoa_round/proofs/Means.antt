@@ -8,11 +8,12 @@ use native.Mathlib.Omega.{arith}
 use lib.Dec.{ltb}
 use lib.ListN.{length, drop, replicate}
 use borrow.Author.Tests.{ltb-false}
+use Rattle.marks.proofs.Cases.{either-false}
 use Rattle.table.specs.declared.Acceptance.{Acceptance}
 use Rattle.table.specs.declared.Acceptance.the-variants as acceptance
 use Rattle.table.specs.Condition.{need}
 use Rattle.table.specs.Refusal.{someNeed, used, wrongCondition}
-use Rattle.table.proofs.Sound.{either-false, rabin-few}
+use Rattle.table.proofs.Sound.{rabin-few}
 use Rattle.hoa_standard.specs.Standard.{standard, infsCount, pairNeed, rabinNeeds, eightNeeds, truthMeaning, stdMeaning}
 use Rattle.hoa_round.specs.Trees.{infsOf, needingOf, rabinOf, stdOf}
 use Rattle.hoa_round.specs.Back.{comesBack, needsFor}

@@ -8,11 +8,12 @@ use lib.Dec.{ltb}
 use lib.ListN.{length, getD, take}
 use lib.Seq.{take-suc, take-length}
 use borrow.Author.Tests.{ltb-false}
+use Rattle.marks.proofs.Cases.{either-false}
 use Rattle.table.specs.declared.Acceptance.{Acceptance}
 use Rattle.table.specs.declared.Finding.{Finding}
 use Rattle.table.specs.declared.Finding.the-variants.{Sound, Refused}
 use Rattle.table.specs.Table.{lent}
-use Rattle.table.proofs.Sound.{sound-fit, either-false}
+use Rattle.table.proofs.Sound.{sound-fit}
 use Rattle.job_text.specs.Value.{Edge}
 use Rattle.job_text.specs.Job.{job}
 use Rattle.hoa_standard.specs.Standard.{mostPairs}

@@ -1,6 +1,6 @@
 -- The edges that are read, in the lent tables; and the whole promise. Assumes nothing.
 use mathlib.Core.Path.{_≡_, refl, sym, ap, _∙_}
-use mathlib.Core.Bool.{Bool, true, false, false≢true, _&&_}
+use mathlib.Core.Bool.{true, false, _&&_}
 use mathlib.Core.List.{List, [], _∷_, map}
 use Prim.Native.Nat.{ℕ, zero, suc, _-_, _≤_, _<_}
 use native.Mathlib.Omega.{arith}
@@ -8,6 +8,7 @@ use borrow.Author.Tests.{eq-eqb, ne-eqb, eqb-true, eqb-false, leb-true}
 use lib.Dec.{eqb, leb}
 use lib.ListN.{length, take, replicate, length-append, length-map, length-replicate}
 use lib.Seq.{take-all, length-take-le}
+use Rattle.marks.proofs.Cases.{both-true}
 use Rattle.hoa_tokens.proofs.Sizes.{byTest}
 use Rattle.job_text.specs.Value.{Edge, padTo}
 use Rattle.job_text.specs.Job.{mostJobEdges}
@@ -63,10 +64,6 @@ sorted-all n c (e ∷ es) h = sorted-in n e es (h .0 .leaves) ∙ ap suc (sorted
 
 -- ---- the lent tables
 
-and-true : (a b : Bool) → a && b ≡ true → (a ≡ true) × (b ≡ true)
-and-true true b e = (refl, e)
-and-true false b e = absurd (false≢true e)
-
 -- long enough
 pub record Long (m : ℕ) (from to marks : List ℕ) : Type 0 where
   pub from-room : m ≤ length from
@@ -75,8 +72,8 @@ pub record Long (m : ℕ) (from to marks : List ℕ) : Type 0 where
 
 pub long : (m : ℕ) (from to marks : List ℕ) → fits m from to marks ≡ true → Long m from to marks
 long m from to marks e =
-    let a = and-true (leb m (length from)) (leb m (length to) && leb m (length marks)) e in
-    let b = and-true (leb m (length to)) (leb m (length marks)) (a .1) in
+    let a = both-true (leb m (length from)) (leb m (length to) && leb m (length marks)) e in
+    let b = both-true (leb m (length to)) (leb m (length marks)) (a .1) in
     record { from-room = leb-true m (length from) (a .0); to-room = leb-true m (length to) (b .0); marks-room = leb-true m (length marks) (b .1) }
 
 pub fitting : (s : RowsSoFar) (firsts ends tos sets from to marks : List ℕ) → Handing s firsts ends tos sets → fits (s .kept) from to marks ≡ true

@@ -1,6 +1,6 @@
 -- What rows that are read to their end keep is a table's worth: the machine's states all keep this promise (`worth`). Assumes nothing.
-use mathlib.Core.Path.{_≡_, refl, sym, ap}
-use mathlib.Core.Bool.{Bool, true, false, false≢true, cond, _||_}
+use mathlib.Core.Path.{_≡_, refl, ap}
+use mathlib.Core.Bool.{true, false, false≢true, cond, _||_}
 use mathlib.Core.List.{List, [], _∷_, _++_}
 use Prim.Native.Nat.{ℕ, zero, suc, _+_, _^_, _≤_, _<_, max}
 use native.Mathlib.Omega.{arith}
@@ -9,6 +9,7 @@ use lib.Bits.{or-lt}
 use lib.Dec.{eqb, ltb, leb}
 use lib.ListN.{length, length-append}
 use lib.Pow.{pow-lt, pow-pos}
+use Rattle.marks.proofs.Cases.{either-false}
 use Rattle.hoa_tokens.proofs.Sizes.{byTest}
 use Rattle.job_text.specs.Value.{Edge}
 use Rattle.job_text.specs.Job.{mostJobStates, mostJobEdges}
@@ -157,10 +158,6 @@ few-more (Value n) k h = omega (arith, leb-false n k h)
 power-some : (k : ℕ) → 0 < 2 ^ k
 power-some k = pow-pos k
 
-or-false : (a b : Bool) → a || b ≡ false → (a ≡ false) × (b ≡ false)
-or-false true b e = absurd (false≢true (sym e))
-or-false false b e = (refl, e)
-
 module _ (l : Limits) (b : Rows) (g : Good l b) where
   good-row : (q : ℕ) → notBelow (length (b .seen)) (l .states) ≡ false → notBelow q (l .states) ≡ false → came q (b .seen) ≡ false → q < mostJobStates
       → Good l (withRow q b)
@@ -239,7 +236,7 @@ module _ (l : Limits) (b : Rows) (g : Good l b) where
       byTest (notBelow q (l .states) || came q (b .seen)) (λ t. rw t tt)
       (λ t.
       byTest (leb mostJobStates q) (λ u. rw (t, u) tt)
-      (λ u. let w = or-false (notBelow q (l .states)) (came q (b .seen)) t in rw (t, u) (good-row q f (w .0) (w .1) (leb-false mostJobStates q u))))
+      (λ u. let w = either-false (notBelow q (l .states)) (came q (b .seen)) t in rw (t, u) (good-row q f (w .0) (w .1) (leb-false mostJobStates q u))))
 
   sig-good : (e : Entry) → StepGood l (onSig l b e)
   sig-good entry-is.Sig = (g, power-some (l .marks))

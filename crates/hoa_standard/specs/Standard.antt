@@ -264,11 +264,3 @@ stdMeaning c (Std.rabin x) = rabinMeaning (rabinNeeds x [])
 stdMeaning c (Std.streett x) = standard (acceptance.Streett (c / 2)) noNeeds
 stdMeaning c (Std.spair x) = standard (acceptance.Streett (c / 2)) noNeeds
 stdMeaning c (Std.truth x) = truthMeaning x
-
--- so many pairs
-unfoldable pub stdPairs : Std → ℕ
-stdPairs (Std.infs x) = 0
-stdPairs (Std.rabin x) = length (rabinNeeds x [])
-stdPairs (Std.streett x) = 0
-stdPairs (Std.spair x) = 0
-stdPairs (Std.truth x) = 0

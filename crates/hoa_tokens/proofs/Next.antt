@@ -132,3 +132,17 @@ token-goes-on text at f h n = go (found-stands text at f h)
         → tokensAt text at ≡ placed (f .first) (f .next) (tokenOf text (f .first) (f .next) (f .kind)) ∷ tokensAt text (f .next)
     go (over e _ _) = absurd (n (finish-kind text (f .first) (f .next) (f .kind) e))
     go (there e _ _ _) = tokens-next text at f h ∙ rw (unfinished (tokenOf text (f .first) (f .next) (f .kind)) (tokensAt text (f .next)) e)
+
+-- a token that is not the text's end is followed by what stands behind it
+pub unless-kind : (text : List ℕ) (a b : ℕ) (k : Kind) (ps : List Placed) → (k ≡ kind-is.Finish → ⊥) → unlessFinished (tokenOf text a b k) ps ≡ ps
+unless-kind text a b (kind-is.Int n) ps h = refl
+unless-kind text a b (kind-is.Word w) ps h = refl
+unless-kind text a b (kind-is.Header x) ps h = refl
+unless-kind text a b kind-is.Quoted ps h = refl
+unless-kind text a b kind-is.Alias ps h = refl
+unless-kind text a b (kind-is.Sign s) ps h = refl
+unless-kind text a b kind-is.Body ps h = refl
+unless-kind text a b kind-is.End ps h = refl
+unless-kind text a b kind-is.Abort ps h = refl
+unless-kind text a b kind-is.Finish ps h = absurd (h refl)
+unless-kind text a b kind-is.Bad ps h = refl

@@ -4,8 +4,7 @@ use crate::step::opens_pair;
 use hoa_standard::Ahead;
 use hoa_standard::Piece;
 ghost use mathlib.Core.Path.{_≡_};
-ghost use Prim.Native.Nat.{ℕ, _<_, _≤_};
-ghost use lib.ListN.{getD};
+ghost use Prim.Native.Nat.{_<_};
 ghost use Rattle.hoa_turn.specs.inner.Counts.{Room, Bounded, neededTo, begunTo, countedTo};
 
 // How many pairs have begun, and the number of Inf in each.

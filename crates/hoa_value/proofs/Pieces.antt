@@ -14,15 +14,6 @@ use Rattle.hoa_value.specs.inner.Pieces.{misplacedNumber, isJoin, isText
 
 -- ---- what belongs is admitted
 
-pub join-known : (p : Piece) → isJoin p ≡ true → known p ≡ true
-join-known piece-is.Join e = refl
-join-known (piece-is.Item k) e = refl
-join-known piece-is.Body e = refl
-join-known piece-is.Word e = refl
-join-known piece-is.Int e = refl
-join-known piece-is.Text e = refl
-join-known (piece-is.Wrong n) e = e
-
 pub word-known : (p : Piece) → isWord p ≡ true → known p ≡ true
 word-known piece-is.Join e = refl
 word-known (piece-is.Item k) e = refl

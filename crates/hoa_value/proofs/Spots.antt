@@ -20,7 +20,7 @@ use Rattle.hoa_tokens.specs.Token.{Token, int, word, header, str, aname, sign, 
 use Rattle.hoa_tokens.specs.Token.{isInt, number, named, quoted, closed, at as aliased, begins, fixed, signOf, single, front}
 use Rattle.hoa_tokens.specs.Stream.{Gap, gap, unclosed, lost, gapOf, Placed, firstOf, first, unlessFinished, tokensAt, tokenOf, TokenAt, part}
 use Rattle.hoa_tokens.proofs.Sizes.{byTest}
-use Rattle.hoa_tokens.proofs.Next.{tokens-next}
+use Rattle.hoa_tokens.proofs.Next.{tokens-next, unless-kind}
 use Rattle.hoa_step.proofs.Wants.{found-next}
 use Rattle.hoa_value.specs.declared.Piece.the-variants as piece-is
 use Rattle.hoa_value.specs.declared.token.Spot.{Spot}
@@ -154,19 +154,6 @@ kind-text kind-is.Bad e = cc
 -- the text's end is not admitted
 not-finish : (k : Kind) → known (pieceKind k) ≡ true → k ≡ kind-is.Finish → ⊥
 not-finish k e q = false≢true (rw q at e)
-
-pub unless-kind : (text : List ℕ) (a b : ℕ) (k : Kind) (ps : List Placed) → (k ≡ kind-is.Finish → ⊥) → unlessFinished (tokenOf text a b k) ps ≡ ps
-unless-kind text a b (kind-is.Int n) ps e = refl
-unless-kind text a b (kind-is.Word w) ps e = refl
-unless-kind text a b (kind-is.Header h) ps e = refl
-unless-kind text a b kind-is.Quoted ps e = refl
-unless-kind text a b kind-is.Alias ps e = refl
-unless-kind text a b (kind-is.Sign s) ps e = refl
-unless-kind text a b kind-is.Body ps e = refl
-unless-kind text a b kind-is.End ps e = refl
-unless-kind text a b kind-is.Abort ps e = refl
-unless-kind text a b kind-is.Finish ps e = absurd (e refl)
-unless-kind text a b kind-is.Bad ps e = refl
 
 -- ---- the first token
 

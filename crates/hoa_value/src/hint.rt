@@ -6,7 +6,6 @@ use crate::token::look;
 use crate::token::misplaced;
 use hoa_step::TextRead;
 use hoa_step::read_text;
-ghost use mathlib.Core.Path.{_≡_};
 ghost use Prim.Native.Nat.{_≤_};
 ghost use lib.ListN.{length};
 ghost use Rattle.hoa_value.specs.Heading.{items, accName, toolText, nameText};

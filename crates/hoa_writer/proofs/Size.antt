@@ -17,7 +17,7 @@ use Rattle.table.specs.declared.Finding.the-variants.{Sound}
 use Rattle.table.specs.Refusal.{used, refusal, wrongCondition}
 use Rattle.table.proofs.Sound.{Fit, sound-fit, used-few, rabin-few}
 use Rattle.puts.specs.Put.{decimal, held, joined}
-use Rattle.puts.proofs.Puts.{digits-few}
+use Rattle.puts.proofs.Puts.{digits-few, decimal-three, joined-length, joined-zero}
 use Rattle.hoa_tokens.specs.Bytes.{bytes}
 use Rattle.hoa_written.specs.Written.{line, close, furtherInfs, buchiText, streettPair, furtherStreett, streettText, rabinPair, furtherRabin, rabinText, formula}
 use Rattle.hoa_written.specs.Written.{markText, marksText, sigText, edgeText, leaving, rowText, rowsText, headText, acceptanceText, hoaText}
@@ -59,10 +59,6 @@ digits-states : (k : ℕ) → k ≤ mostWritten → digitsTo k ≤ 658
 unfolding digitsTo
 digits-states k l = omega arith
 
--- three digits
-three : (n : ℕ) → n < 1000 → length (decimal n) ≤ 3
-three n l = digits-few 2 n n l
-
 -- ---- texts
 
 -- the newline byte
@@ -72,16 +68,6 @@ line-length text = length-append text (10 ∷ [])
 -- the key, the digits and the byte
 held-length : (key : List ℕ) (n last : ℕ) → length (held key n last) ≡ length key + length (decimal n) + 1
 held-length key n last = omega (arith, length-append (key ++ decimal n) (last ∷ []), length-append key (decimal n))
-
--- one text more
-joined-length : (f : ℕ → List ℕ) (k : ℕ) → length (joined f (suc k)) ≡ length (joined f k) + length (f k)
-unfolding joined
-joined-length f k = length-append (joined f k) (f k)
-
--- none
-joined-zero : (f : ℕ → List ℕ) → length (joined f 0) ≡ 0
-unfolding joined
-joined-zero f = refl
 
 -- ---- the formula: five bytes and the digits for each mark, `Inf(` and `)`, and what stands between
 
@@ -235,7 +221,7 @@ sig-most set =
 edge-most : (to set : ℕ) → to < 1000 → length (edgeText to set) ≤ 96
 unfolding edgeText bytes
 edge-most to set l =
-    omega (arith, line-length (bytes "[t] " ++ (decimal to ++ sigText set)), length-append (decimal to) (sigText set), three to l, sig-most set)
+    omega (arith, line-length (bytes "[t] " ++ (decimal to ++ sigText set)), length-append (decimal to) (sigText set), decimal-three to l, sig-most set)
 
 -- ---- the rows: each edge stands in one of them
 
@@ -324,8 +310,8 @@ head-most n start l h =
       length-append (line (bytes "Start: " ++ decimal start)) (line (bytes "AP: 0")),
       line-length (bytes "States: " ++ decimal n),
       line-length (bytes "Start: " ++ decimal start),
-      three n l,
-      three start h,
+      decimal-three n l,
+      decimal-three start h,
     )
 
 -- two digits and the formula

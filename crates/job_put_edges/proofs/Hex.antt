@@ -12,9 +12,10 @@ use Rattle.marks.proofs.Cases.{below}
 use Rattle.digits.specs.Digit.{hexDigit}
 use Rattle.digits.proofs.Digits.{within, over}
 use Rattle.puts.specs.Put.{joined}
+use Rattle.puts.proofs.Over.{Over, over-both}
+use Rattle.job_values.proofs.Numbers.{spelt-snoc}
 use Rattle.job_text.specs.Value.{spelt, hexDigits, hexWord}
 use Rattle.job_put_edges.specs.Edges.{hexByte, hexAt, hexText}
-use Rattle.job_put_edges.proofs.Decimals.{Over, over-both, spelt-last}
 
 -- ---- one digit
 
@@ -76,8 +77,9 @@ hex-spell set (suc k) l h =
     let high : 28 - 4 * k + 4 ≡ 32 - 4 * k = omega arith in
     let four : set / p / 16 ≡ set / 2 ^ (32 - 4 * k) = shr-shr set (28 - 4 * k) 4 ∙ ap (λ (i : ℕ). set / 2 ^ i) high in
     let e : set / 2 ^ (32 - 4 * k) * 16 + set / p % 16 ≡ set / p = omega (arith, four) in
-    let last = spelt-last hexDigit 16 0 (joined (hexAt set) k) (hexByte (set / p % 16)) in
-    rw (hex-more set k, last, hex-spell set k l (omega arith), byte-back (set / p % 16) (omega arith), low) (ap some e)
+    let d = set / p % 16 in
+    rw (hex-more set k, low)
+    (spelt-snoc hexDigit 16 0 (set / 2 ^ (32 - 4 * k)) d (hexByte d) (joined (hexAt set) k) (hex-spell set k l (omega arith)) (byte-back d (omega arith)) ∙ ap some e)
 
 -- "marks as eight lower-case hex digits"
 pub hex-back : (set : ℕ) → set < 2 ^ width → hexWord (hexText set) ≡ some set

@@ -83,7 +83,7 @@ front-more es e (found fs p ls) = rw append-assoc
 front-more es e (refused x p) = refl
 
 -- one cell more of a table
-column-more : (part : Edge → ℕ) (es : List Edge) (e : Edge) (cells : List ℕ) → length es < mostJobEdges → cells ≡ padTo mostJobEdges (map part es)
+pub column-more : (part : Edge → ℕ) (es : List Edge) (e : Edge) (cells : List ℕ) → length es < mostJobEdges → cells ≡ padTo mostJobEdges (map part es)
     → set cells (length es) (part e) ≡ padTo mostJobEdges (map part (es ++ (e ∷ [])))
 column-more part es e cells l h =
     rw (h, map-append part es (e ∷ []), ← length-map es part) (pad-more mostJobEdges (map part es) (part e) (omega (arith, length-map es part)))

@@ -1,6 +1,6 @@
 -- Numbers: digits one after the other, and what cannot begin a number. Assumes nothing.
 use mathlib.Core.Path.{_≡_, refl, _∙_}
-use mathlib.Core.Bool.{Bool, true, false, false≢true, cond, _&&_}
+use mathlib.Core.Bool.{Bool, true, false, cond, _&&_}
 use mathlib.Core.List.{List, [], _∷_, _++_}
 use mathlib.Core.Option.{Option, some, none}
 use Prim.Native.Nat.{ℕ, suc, _+_, _-_, _*_, _≤_, _<_}
@@ -10,6 +10,7 @@ use lib.Dec.{leb, ltb, eqb}
 use lib.ListN.{length, getD, drop, drop-of-length-le, length-append, length-drop, List·getD-append}
 use lib.Seq.{take-suc, getD-drop, drop-cons}
 use borrow.Author.Tests.{eq-eqb, ne-eqb, le-leb, lt-leb, leb-false, lt-ltb, ltb-true, eqb-true}
+use Rattle.marks.proofs.Cases.{both-true}
 use Rattle.table.specs.Row.{part}
 use Rattle.digits.specs.Digit.{digit}
 use Rattle.job_values.proofs.Cut.{byTest}
@@ -132,13 +133,9 @@ number-spelt bs n l z e h =
 
 -- ---- what is no number does not begin one
 
-and-true : (s t : Bool) → (s && t) ≡ true → (s ≡ true) × (t ≡ true)
-and-true true t e = (refl, e)
-and-true false t e = absurd (false≢true e)
-
 led-on : (p q : List ℕ) → leadingZero p ≡ true → leadingZero (p ++ q) ≡ true
 led-on p q e =
-    let g = and-true (ltb 1 (length p)) (eqb (getD p 0 0) 48) e in
+    let g = both-true (ltb 1 (length p)) (eqb (getD p 0 0) 48) e in
     let l : 1 < length p = ltb-true 1 (length p) (g .0) in
     led (p ++ q) (omega (arith, length-append p q)) (List·getD-append p q 0 0 (omega arith) ∙ eqb-true (getD p 0 0) 48 (g .1))
 

@@ -1,4 +1,4 @@
--- Lines and fields of a text that is put together, and what a line says. Assumes nothing.
+-- Lines of a text that is put together, and what a line says. Assumes nothing.
 use mathlib.Core.Path.{_≡_, refl, ap, _∙_}
 use mathlib.Core.Bool.{Bool, true, false}
 use mathlib.Core.List.{List, [], _∷_, _++_, append-assoc}
@@ -7,11 +7,12 @@ use Prim.Native.Nat.{ℕ, _+_}
 use native.Mathlib.Omega.{arith}
 use lib.ListN.{length, drop}
 use lib.Seq.{take-at}
-use borrow.Author.Tests.{eq-eqb, ne-eqb}
-use Rattle.job_text.specs.Text.{newline, comma, Lines, line, lines, longer, fields, longerField, same, begins}
+use borrow.Author.Tests.{ne-eqb}
+use Rattle.job_text.specs.Text.{newline, Lines, line, lines, longer, begins}
 use Rattle.job_text.specs.Job.{Keyed, value, keyed, says, asked, found, Found, Reader, goOn, next, placed, perhaps, leftOut, unlimited}
 use Rattle.job_put_edges.specs.Edges.{shown}
-use Rattle.job_put_edges.proofs.Decimals.{Over}
+use Rattle.job_values.proofs.Spoken.{same-refl}
+use Rattle.puts.proofs.Over.{Over}
 
 -- ---- cutting
 
@@ -22,26 +23,7 @@ lines-line [] rest o = refl
 lines-line (x ∷ xs) rest o =
     rw (ne-eqb x newline (λ (e : x ≡ newline). omega (arith, o .0))) (ap (longer x) (lines-line xs rest (o .1)))
 
--- a field without a comma, then one
-pub fields-field : (f rest : List ℕ) → Over comma f → fields (f ++ (comma ∷ rest)) ≡ f ∷ fields rest
-unfolding fields
-fields-field [] rest o = refl
-fields-field (x ∷ xs) rest o =
-    rw (ne-eqb x comma (λ (e : x ≡ comma). omega (arith, o .0))) (ap (longerField x) (fields-field xs rest (o .1)))
-
--- the last field
-pub fields-last : (f : List ℕ) → Over comma f → fields f ≡ f ∷ []
-unfolding fields
-fields-last [] o = refl
-fields-last (x ∷ xs) o = rw (ne-eqb x comma (λ (e : x ≡ comma). omega (arith, o .0))) (ap (longerField x) (fields-last xs (o .1)))
-
 -- ---- keys
-
--- a text is the same as itself
-same-self : (xs : List ℕ) → same xs xs ≡ true
-unfolding same
-same-self [] = refl
-same-self (x ∷ xs) = rw (eq-eqb x x refl) (same-self xs)
 
 -- what stands behind the key
 drop-key : (key v : List ℕ) → drop (length key) (key ++ v) ≡ v
@@ -51,7 +33,7 @@ drop-key (x ∷ key) v = drop-key key v
 -- a line is found by its key
 pub keyed-there : (key v rest : List ℕ) → Over newline (key ++ v) → keyed key (lines (shown key v ++ rest)) ≡ value v (lines rest)
 keyed-there key v rest o =
-    let b : begins key (key ++ v) ≡ true = rw (take-at key v (length key) refl) (same-self key) in
+    let b : begins key (key ++ v) ≡ true = rw (take-at key v (length key) refl) (same-refl key) in
     rw (append-assoc (key ++ v) (newline ∷ []) rest, lines-line (key ++ v) rest o, b, drop-key key v)
 
 -- ---- what a line says

@@ -6,11 +6,12 @@ use Prim.Native.Nat.{ℕ, _≤_}
 use lib.Dec.{ltb}
 use lib.ListN.{length}
 use borrow.Author.Tests.{le-ltb, ltb-false}
+use Rattle.marks.proofs.Cases.{either-false}
 use Rattle.table.specs.declared.Acceptance.the-variants.{Buchi}
 use Rattle.table.specs.declared.Finding.the-variants.{Sound}
 use Rattle.table.specs.Table.{Table, lent}
 use Rattle.table.specs.Refusal.{refusal}
-use Rattle.table.proofs.Sound.{either-false, sound-fit}
+use Rattle.table.proofs.Sound.{sound-fit}
 use Rattle.job_text.specs.Job.{mostJobStates, mostJobEdges}
 use Rattle.job_writer.specs.Writing.{tooLarge}
 use Rattle.job_put_edges.specs.inner.{Passed}

@@ -3,7 +3,7 @@ use mathlib.Core.Path.{_≡_, refl, sym, ap, _∙_}
 use mathlib.Core.Bool.{Bool, true, false}
 use mathlib.Core.List.{List, [], _∷_, _++_, append-assoc, map}
 use mathlib.Core.Option.{some}
-use Prim.Native.Nat.{ℕ, zero, suc, _+_, _-_, _^_, _≤_, _<_}
+use Prim.Native.Nat.{ℕ, zero, suc, _+_, _^_, _≤_, _<_}
 use native.Mathlib.Nat.{add-zero}
 use native.Mathlib.Omega.{arith}
 use lib.ListN.{length, getD, take, drop, drop-of-length-le}
@@ -31,9 +31,10 @@ use Rattle.job_writer.specs.Back.{ReadsBack}
 use Rattle.job_writer.specs.Writing.{tooLarge, writeRefusal, Writes}
 use Rattle.job_writer.proofs.Lists.{limits}
 use Rattle.job_writer.proofs.Size.{most-bytes}
-use Rattle.job_put_edges.proofs.Decimals.{Over, over-both, over?, over-test, digits-over, number-back}
+use Rattle.puts.proofs.Over.{Over, over-both, over?, over-test, decimal-over}
+use Rattle.job_values.proofs.Decimals.{number-decimal, field-over, last-over}
 use Rattle.job_put_edges.proofs.Hex.{hex-over, hex-back}
-use Rattle.job_writer.proofs.Lines.{fields-field, fields-last, next-there, perhaps-there, then}
+use Rattle.job_writer.proofs.Lines.{next-there, perhaps-there, then}
 
 -- ---- an edge line
 
@@ -46,18 +47,18 @@ edge-back : (f t set : ℕ) → f ≤ mostNumber → t ≤ mostNumber → set < 
 unfolding edge
 edge-back f t set l h s =
     let fields-are =
-    fields-field (decimal f) (decimal t ++ (comma ∷ hexText set)) (digits-over comma f f (omega arith))
+    field-over (decimal f) (decimal t ++ (comma ∷ hexText set)) (decimal-over comma f (omega arith))
     ∙ ap (λ (fs : List (List ℕ)). decimal f ∷ fs)
-    (fields-field (decimal t) (hexText set) (digits-over comma t t (omega arith))
-    ∙ ap (λ (fs : List (List ℕ)). decimal t ∷ fs) (fields-last (hexText set) (hex-over comma set 8 (omega arith)))) in
-    rw (fields-are, number-back f l, number-back t h, hex-back set s)
+    (field-over (decimal t) (hexText set) (decimal-over comma t (omega arith))
+    ∙ ap (λ (fs : List (List ℕ)). decimal t ∷ fs) (last-over (hexText set) (hex-over comma set 8 (omega arith)))) in
+    rw (fields-are, number-decimal f l, number-decimal t h, hex-back set s)
 
 -- no newline byte in it
 edge-over : (f t set : ℕ) → Over newline (edge= ++ edgeValue f t set)
 edge-over f t set =
     over-both newline edge= (edgeValue f t set) (over-test newline edge= refl)
-    (over-both newline (decimal f) (comma ∷ (decimal t ++ (comma ∷ hexText set))) (digits-over newline f f (omega arith))
-    (omega arith, over-both newline (decimal t) (comma ∷ hexText set) (digits-over newline t t (omega arith)) (omega arith, hex-over newline set 8 (omega arith))))
+    (over-both newline (decimal f) (comma ∷ (decimal t ++ (comma ∷ hexText set))) (decimal-over newline f (omega arith))
+    (omega arith, over-both newline (decimal t) (comma ∷ hexText set) (decimal-over newline t (omega arith)) (omega arith, hex-over newline set 8 (omega arith))))
 
 -- ---- all edge lines
 
@@ -131,7 +132,7 @@ module _ (from to marks : List ℕ) where
 number-there : (key rest : List ℕ) (n : ℕ) → over? newline key ≡ true → n ≤ mostNumber → (limit : ℕ → Bool) → limit n ≡ false → (place : ℕ)
     → next (asked key number limit) place (lines (shown key (decimal n) ++ rest)) ≡ found n (place + 1) (lines rest)
 number-there key rest n o l limit h place =
-    next-there key (decimal n) rest number (over-both newline key (decimal n) (over-test newline key o) (digits-over newline n n (omega arith))) n (number-back n l) limit h place
+    next-there key (decimal n) rest number (over-both newline key (decimal n) (over-test newline key o) (decimal-over newline n (omega arith))) n (number-decimal n l) limit h place
 
 two : decimal 2 ≡ 50 ∷ []
 unfolding decimalIn

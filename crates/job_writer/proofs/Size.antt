@@ -1,5 +1,5 @@
 -- How long a text is at most: 11,336 bytes (docs/RULES.md, "The job text and the printed answer", the writer). Assumes nothing.
-use mathlib.Core.Path.{_≡_, refl, sym, ap, _∙_}
+use mathlib.Core.Path.{_≡_, sym, ap, _∙_}
 use mathlib.Core.Bool.{Bool, true, false, cond}
 use mathlib.Core.List.{List, [], _∷_, _++_}
 use Prim.Native.Nat.{ℕ, zero, suc, _+_, _*_, _≤_, _<_}
@@ -10,8 +10,8 @@ use Rattle.table.specs.declared.Finding.the-variants.{Sound, Refused}
 use Rattle.table.specs.Table.{lent}
 use Rattle.table.specs.Refusal.{refusal}
 use Rattle.table.proofs.Sound.{Fit, sound-fit}
-use Rattle.puts.specs.Put.{decimal, joined}
-use Rattle.puts.proofs.Puts.{digits-few}
+use Rattle.puts.specs.Put.{decimal}
+use Rattle.puts.proofs.Puts.{digits-few, decimal-three, joined-length, joined-zero}
 use Rattle.job_text.specs.Text.{newline, comma}
 use Rattle.job_text.specs.Value.{buchi, dash, job}
 use Rattle.job_text.specs.Job.{mostJobStates, mostJobEdges, form=, states=, start=, kind=, count=, need=, edges=, edge=, end=}
@@ -29,10 +29,6 @@ use Rattle.job_writer.proofs.Lists.{not-large, limits}
 shown-length : (key value : List ℕ) → length (shown key value) ≡ length key + length value + 1
 shown-length key value = omega (arith, length-append (key ++ value) (newline ∷ []), length-append key value)
 
--- a number below 1,000 has three digits
-three : (n : ℕ) → n < 1000 → length (decimal n) ≤ 3
-three n l = digits-few 2 n n l
-
 -- a digit has one
 one : (n : ℕ) → n < 10 → length (decimal n) ≤ 1
 one n l = digits-few 0 n n l
@@ -49,19 +45,9 @@ edge-most f t set l h =
       length-append (decimal f) rest,
       length-append (decimal t) last,
       hex-length set 8,
-      three f l,
-      three t h,
+      decimal-three f l,
+      decimal-three t h,
     )
-
--- one line more
-joined-length : (f : ℕ → List ℕ) (k : ℕ) → length (joined f (suc k)) ≡ length (joined f k) + length (f k)
-unfolding joined
-joined-length f k = length-append (joined f k) (f k)
-
--- none
-joined-zero : (f : ℕ → List ℕ) → length (joined f 0) ≡ 0
-unfolding joined
-joined-zero f = refl
 
 edges-most : (from to marks : List ℕ) (k : ℕ) → ((e : ℕ) → e < k → getD from e 0 < 1000) → ((e : ℕ) → e < k → getD to e 0 < 1000)
     → length (edgesText from to marks k) ≤ 22 * k
@@ -94,10 +80,10 @@ head-most n start m l h k =
       shown-length count= (decimal 1),
       shown-length edges= (decimal m),
       one 2 (omega arith),
-      three n l,
-      three start h,
+      decimal-three n l,
+      decimal-three start h,
       one 1 (omega arith),
-      three m k,
+      decimal-three m k,
     )
 
 -- ---- the whole text

@@ -7,6 +7,7 @@ use native.Mathlib.Nat.{mul-le-mul}
 use native.Mathlib.Omega.{arith}
 use lib.Dec.{ltb}
 use borrow.Author.Tests.{ltb-false}
+use Rattle.marks.proofs.Cases.{either-false}
 use Rattle.marks.specs.Mark.{width}
 use Rattle.table.specs.declared.Acceptance.the-variants.{Buchi}
 use Rattle.table.specs.declared.Finding.{Finding}
@@ -14,7 +15,7 @@ use Rattle.table.specs.declared.Finding.the-variants.{Sound, Refused as Faulty}
 use Rattle.table.specs.Table.{Table, lent}
 use Rattle.table.specs.Refusal.{refusal, mostStates, mostEdges}
 use Rattle.table.proofs.Door.{CauseAt, refused-row}
-use Rattle.table.proofs.Sound.{Fit, sound-fit, used-few, either-false}
+use Rattle.table.proofs.Sound.{Fit, sound-fit, used-few}
 use Rattle.one_mark.specs.declared.Translation.{Translation}
 use Rattle.one_mark.specs.declared.Translation.the-variants.{Made, Refused}
 use Rattle.climbing.specs.Climb.{levels, number}

@@ -9,7 +9,7 @@ use lib.ListN.{length, getD, take, drop, set, length-append, length-replicate, t
 use lib.Seq.{sets, sets-eq, length-sets, set-out, take-suc, length-take-le, take-length, drop-length, drop-cons, set-at, take-at, set-comm}
 use borrow.Author.Tests.{lt-ltb, le-ltb}
 use Rattle.marks.proofs.Cases.{below}
-use Rattle.puts.specs.Put.{decimalIn, decimal, Put}
+use Rattle.puts.specs.Put.{decimalIn, decimal, joined, Put}
 
 -- ---- one text after another
 
@@ -44,6 +44,15 @@ word-more out mid out' at i r word l p q =
 
 pub word-whole : {out out' : List ℕ} (at i : ℕ) (word : List ℕ) → i ≡ length word → Put out out' at (take i word) (at + i) → Put out out' at word (at + length word)
 word-whole at i word e p = rw (e, take-length word) at p
+
+-- texts joined: one more, or none
+pub joined-length : (f : ℕ → List ℕ) (k : ℕ) → length (joined f (suc k)) ≡ length (joined f k) + length (f k)
+unfolding joined
+joined-length f k = length-append (joined f k) (f k)
+
+pub joined-zero : (f : ℕ → List ℕ) → length (joined f 0) ≡ 0
+unfolding joined
+joined-zero f = refl
 
 -- ---- zeros to the end
 
@@ -107,6 +116,10 @@ digits-few (suc d) (suc k) n l =
     (λ s.
     let h : n / 10 < 10 ^ suc d = omega (arith, pow-suc 10 (suc d)) in
     omega (arith, ap length (more k n s), length-append (decimalIn k (n / 10)) ((48 + n % 10) ∷ []), digits-few d k (n / 10) h))
+
+-- a number below 1,000 has at most three
+pub decimal-three : (n : ℕ) → n < 1000 → length (decimal n) ≤ 3
+decimal-three n l = digits-few 2 n n l
 
 pub decimal-few : (n : ℕ) → n < 2 ^ 32 → length (decimal n) ≤ 10
 decimal-few n l = digits-few 9 n n (omega arith)

@@ -1,6 +1,6 @@
 -- Exactly the proper tables whose edges bear only marks that a permitted condition uses are found sound. Assumes nothing.
 use mathlib.Core.Path.{_≡_, refl, sym, ap, _∙_, subst}
-use mathlib.Core.Bool.{Bool, true, false, not, _||_, cond, true≢false}
+use mathlib.Core.Bool.{Bool, true, false, not, _||_, cond}
 use mathlib.Core.List.{List}
 use Prim.Native.Nat.{ℕ, zero, suc, _+_, _^_, _≤_, _<_}
 use native.Mathlib.Omega.{arith}
@@ -8,7 +8,7 @@ use lib.Dec.{ltb, leb, eqb}
 use lib.ListN.{length, getD, drop}
 use borrow.Author.Tests.{ltb-false, leb-false, eqb-true, eqb-false, not-false, lt-leb, le-ltb, eq-eqb, ne-eqb}
 use Rattle.marks.specs.Mark.{width}
-use Rattle.marks.proofs.Cases.{same}
+use Rattle.marks.proofs.Cases.{same, either-false}
 use Rattle.table.specs.declared.Acceptance.{Acceptance}
 use Rattle.table.specs.declared.Acceptance.the-variants.{Buchi, Streett, Rabin}
 use Rattle.table.specs.declared.Finding.{Finding}
@@ -19,10 +19,6 @@ use Rattle.table.specs.Refusal.{someNeed, used, wrongStates, wrongEdges,
 use Rattle.table.specs.Refusal.{edgeRefusal, refusal, mostStates, mostEdges, Proper, MarksBelow}
 
 -- ---- the tests, taken apart and put together
-
-pub either-false : (a b : Bool) → (a || b) ≡ false → (a ≡ false) × (b ≡ false)
-either-false true b e = absurd (true≢false e)
-either-false false b e = (refl, e)
 
 neither : (a b : Bool) → a ≡ false → b ≡ false → (a || b) ≡ false
 neither a b p q = ap (λ (x : Bool). x || b) p ∙ q

@@ -8,12 +8,12 @@ use native.Mathlib.Omega.{arith}
 use lib.Dec.{ltb}
 use lib.ListN.{length, take, drop, replicate, length-append}
 use borrow.Author.Tests.{le-ltb, ltb-false}
+use Rattle.marks.proofs.Cases.{either-false}
 use Rattle.table.specs.declared.Acceptance.the-variants.{Buchi, Streett, Rabin}
 use Rattle.table.specs.declared.Finding.{Finding}
 use Rattle.table.specs.declared.Finding.the-variants.{Sound, Refused}
 use Rattle.table.specs.Table.{Table, lent}
 use Rattle.table.specs.Refusal.{refusal, mostStates, mostEdges}
-use Rattle.table.proofs.Sound.{either-false}
 use Rattle.one_mark.specs.declared.Translation.{Translation}
 use Rattle.one_mark.specs.declared.Translation.the-variants as translation
 use Rattle.climbing.specs.Translated.{translated}

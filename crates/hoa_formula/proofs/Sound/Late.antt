@@ -10,6 +10,7 @@ use native.Mathlib.Omega.{arith}
 use native.Mathlib.Decide.{decLt}
 use lib.Dec.{eqb, ltb}
 use borrow.Author.Tests.{eqb-true, eqb-false, ltb-true, ltb-false}
+use Rattle.marks.proofs.Cases.{either-false}
 use Rattle.hoa_tokens.specs.declared.Word.the-variants as word-is
 use Rattle.hoa_tokens.specs.Token.{Token, word}
 use Rattle.hoa_standard.specs.declared.Piece.{Piece}
@@ -803,10 +804,6 @@ module _ (c : ℕ) where
     where
       a : (buchiDone (b .buchi) ≡ false) × (rabinDone (b .rabin) ≡ false) × ((streettDone (b .streett) || bareDone (b .bare)) ≡ false) × (truthDone (b .truth) ≡ short)
       a = all-short (buchiDone (b .buchi)) (rabinDone (b .rabin)) (streettDone (b .streett) || bareDone (b .bare)) ns (truthDone (b .truth)) s
-
-      either-false : (x y : Bool) → x || y ≡ false → (x ≡ false) × (y ≡ false)
-      either-false true y e = absurd (clash e refl)
-      either-false false y e = (refl, e)
 
       five : bareLive (b .bare) ≡ true ⊎ (truthLive (b .truth) ≡ true) → ⊥
       five (inl e) = clash (either-false (streettDone (b .streett)) (bareDone (b .bare)) (a .2) .1) (bare-ends (b .bare) n q (f .bare) e (g .bare))

@@ -1,8 +1,9 @@
 -- `condition::all_there` meets its contract: the marks looked at are there. The measure is the marks left. Assumes nothing.
 use Prim.Native.Nat.{ℕ, _+_, _-_}
 use borrow.Author.Tests.{not-true, not-false}
+use Rattle.marks.proofs.Cases.{refuted}
 use Rattle.marks.specs.Mark.{has}
-use Rattle.answer_check.proofs.Conditions.{Each, each-more, each-all, each-not, not-so}
+use Rattle.answer_check.proofs.Conditions.{Each, each-more, each-all, each-not}
 use native.Mathlib.Omega.{arith}
 use borrow.Author.Needs.{needs}
 use Rattle.answer_check.proofs.condition.all_there.Statement.{statement}
@@ -27,7 +28,7 @@ returns : tie.Need-returns Inv-loop μ-loop
 returns c =
     let a = c .before .before .before .before .args in
     each-not (λ j. has (a .first + j) (a .union)) (c .before .before .before .loop .j) (a .count) (c .before .before .loop-test .taken)
-    (not-so _ (c .before .has-mark .ensures) (not-true _ (c .if1 .taken)))
+    (refuted _ (c .before .has-mark .ensures) (not-true _ (c .if1 .taken)))
 
 add-j : tie.Need-add-j Inv-loop μ-loop
 add-j c = search needs

@@ -1,6 +1,7 @@
 -- `condition::answers` meets its contract: a pair whose left mark is not there asks for nothing. Assumes nothing.
 use borrow.Author.Tests.{not-true, not-false}
-use Rattle.answer_check.proofs.Conditions.{not-so, answers-none, answers-so}
+use Rattle.marks.proofs.Cases.{refuted}
+use Rattle.answer_check.proofs.Conditions.{answers-none, answers-so}
 use borrow.Author.Needs.{needs}
 use Rattle.answer_check.proofs.condition.answers.Statement.{statement}
 use Rattle.answer_check.proofs.condition.answers.Tie as tie
@@ -12,7 +13,7 @@ has-mark-requires : tie.Need-has-mark-requires
 has-mark-requires c κs = search needs
 
 returns : tie.Need-returns
-returns c = answers-none (not-so _ (c .before .has-mark .ensures) (not-true _ (c .if1 .taken)))
+returns c = answers-none (refuted _ (c .before .has-mark .ensures) (not-true _ (c .if1 .taken)))
 
 mul-has-mark-2 : tie.Need-mul-has-mark-2
 mul-has-mark-2 c = search needs

@@ -1,7 +1,8 @@
 -- `condition::meets_pair` meets its contract: the pair is one of the condition's, its forbidden mark is not there, its needed marks are. Assumes nothing.
+use Rattle.marks.proofs.Cases.{refuted}
 use Rattle.marks.specs.Mark.{width}
 use Rattle.table.proofs.Sound.{rabin-few}
-use Rattle.answer_check.proofs.Conditions.{dealt-up, dealt-within, dealt-few, not-so, pair-not-there, pair-forbidden, pair-needed}
+use Rattle.answer_check.proofs.Conditions.{dealt-up, dealt-within, dealt-few, pair-not-there, pair-forbidden, pair-needed}
 use native.Mathlib.Omega.{arith}
 use borrow.Author.Needs.{needs}
 use Rattle.answer_check.proofs.condition.meets_pair.Statement.{statement}
@@ -50,7 +51,7 @@ returns-3 : tie.Need-returns-3
 returns-3 c =
     let a = c .before .before .before .before .before .args in
     pair-needed (a .p) (a .t3) (a .union) (a .pair) (c .before .before .before .forbidden .result) (c .all-there .result) (c .before .before .before .before .if1 .left) (c .before .before .before .forbidden .ensures)
-    (not-so _ (c .before .before .has-mark .ensures) (c .before .if2 .left)) (c .all-there .ensures)
+    (refuted _ (c .before .before .has-mark .ensures) (c .before .if2 .left)) (c .all-there .ensures)
 
 pub meets-pair-spec : {M : Type 1} → statement M
 meets-pair-spec =

@@ -1,8 +1,9 @@
 -- `condition::meets_streett` meets its contract: the pairs looked at are answered. The measure is the pairs left. Assumes nothing.
 use Prim.Native.Nat.{ℕ, _+_, _-_, _*_}
 use borrow.Author.Tests.{not-true, not-false}
+use Rattle.marks.proofs.Cases.{refuted}
 use Rattle.marks.specs.Mark.{has}
-use Rattle.answer_check.proofs.Conditions.{Each, each-more, each-all, each-not, not-so}
+use Rattle.answer_check.proofs.Conditions.{Each, each-more, each-all, each-not}
 use native.Mathlib.Omega.{arith}
 use borrow.Author.Needs.{needs}
 use Rattle.answer_check.proofs.condition.meets_streett.Statement.{statement}
@@ -23,7 +24,7 @@ answers-requires c κs = search needs
 returns : tie.Need-returns Inv-loop μ-loop
 returns c =
     let M = c .before .before .before .before .args .union in
-    each-not (λ j. has (2 * j) M → has (2 * j + 1) M) (c .before .before .before .loop .i) (c .before .before .before .before .args .p) (c .before .before .loop-test .taken) (not-so _ (c .before .answers .ensures) (not-true _ (c .if1 .taken)))
+    each-not (λ j. has (2 * j) M → has (2 * j + 1) M) (c .before .before .before .loop .i) (c .before .before .before .before .args .p) (c .before .before .loop-test .taken) (refuted _ (c .before .answers .ensures) (not-true _ (c .if1 .taken)))
 
 add-i : tie.Need-add-i Inv-loop μ-loop
 add-i c = search needs

@@ -10,7 +10,6 @@ use Rattle.puts.proofs.Puts.{decimal-one, decimal-more}
 -- what holds of one digit, and of one digit more behind those of a number above 0
 module _ (P : ℕ → List ℕ → Type 0) (alone : (d : ℕ) → d < 10 → P d ((48 + d) ∷ []))
     (behind : (n d : ℕ) (ds : List ℕ) → 0 < n → d < 10 → P n ds → P (n * 10 + d) (ds ++ ((48 + d) ∷ []))) where
-
   up-to : (k n : ℕ) → n ≤ k → P n (decimal n)
   up-to zero n l = rw (decimal-one n (omega arith)) (alone n (omega arith))
   up-to (suc k) n l =

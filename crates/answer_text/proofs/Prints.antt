@@ -13,9 +13,9 @@ use Rattle.table.specs.Row.{part}
 use Rattle.table.specs.Table.{waiting}
 use Rattle.puts.specs.Put.{decimal, Put}
 use Rattle.puts.proofs.Puts.{put-both, decimal-few, as-it-was, then-zeros}
-use Rattle.job_text.specs.Text.{comma, newline}
+use Rattle.job_text.specs.Text.{comma}
 use Rattle.job_text.specs.Value.{dash}
-use Rattle.answer_text.specs.Printed.{stop, stepText, furtherText, listText, shown, bottomText, Prints}
+use Rattle.answer_text.specs.Printed.{stop, stepText, furtherText, listText, bottomText, Prints}
 use Rattle.answer_text.specs.declared.Printed.the-variants as printed
 
 -- ---- an edge
@@ -76,9 +76,6 @@ list-some (x ∷ xs) h = rw (take-all (suc (length xs) - 1) xs (omega arith))
 
 pub rest-length : (xs : List ℕ) → length (part 1 (length xs) xs) ≤ length xs - 1
 rest-length xs = omega (arith, length-take (length xs - 1) (drop 1 xs), length-drop 1 xs)
-
-pub shown-length : (key text : List ℕ) → length (shown key text) ≡ length key + length text + 1
-shown-length key text = omega (arith, length-append (key ++ text) (newline ∷ []), length-append key text)
 
 -- ---- the cells of the room that are there
 

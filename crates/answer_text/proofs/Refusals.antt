@@ -16,7 +16,7 @@ use Rattle.job_text.specs.Value.{dash}
 use Rattle.answer_text.specs.declared.Printed.{Printed}
 use Rattle.answer_text.specs.declared.Printed.the-variants as printed
 use Rattle.answer_text.specs.Printed.{shown, verdict=, code=, place=, column=, pair=, depth=, verdictWord, topText, bottomText, answerText, refusedText, Prints}
-use Rattle.answer_text.proofs.Prints.{shown-length}
+use Rattle.job_values.proofs.Cut.{shown-length}
 
 -- ---- eight lines
 

@@ -17,7 +17,8 @@ use Rattle.job_text.specs.Text.{comma}
 use Rattle.puts.specs.Put.{decimal}
 use Rattle.puts.proofs.Puts.{digits-few, decimal-few}
 use Rattle.answer_text.specs.Printed.{stepText, furtherText, listText, shown, verdict=, code=, place=, column=, pair=, depth=, prefix=, cycle=, verdictWord, pairText, topText, bottomText, answerText, mostPrinted}
-use Rattle.answer_text.proofs.Prints.{step-stop, step-number, shown-length}
+use Rattle.answer_text.proofs.Prints.{step-stop, step-number}
+use Rattle.job_values.proofs.Cut.{shown-length}
 
 -- ---- an edge number below 512 has at most three digits, and `stop` four letters
 

@@ -12,7 +12,8 @@ use Rattle.table.specs.declared.Verdict.the-variants.{Run, Empty, Refused}
 use Rattle.table.specs.Table.{waiting}
 use Rattle.table.specs.Verdict.{numberOf, placeOf, prefixOf, cycleOf}
 use Rattle.puts.specs.Put.{decimal}
-use Rattle.job_text.specs.Text.{newline, comma}
+use Rattle.job_text.specs.Text.{comma}
+pub use Rattle.job_values.specs.Bytes.{shown}
 use Rattle.job_text.specs.Value.{dash}
 use Rattle.answer_text.specs.declared.Printed.{Printed}
 use Rattle.answer_text.specs.declared.Printed.the-variants as printed
@@ -36,9 +37,6 @@ listText [] = dash
 listText (e ∷ es) = stepText e ++ furtherText es
 
 -- ---- the eight lines
-
-abbrev pub shown : List ℕ → List ℕ → List ℕ
-shown key text = (key ++ text) ++ (newline ∷ [])
 
 abbrev pub verdict= : List ℕ
 verdict= = 118 ∷ 101 ∷ 114 ∷ 100 ∷ 105 ∷ 99 ∷ 116 ∷ 61 ∷ []

@@ -12,7 +12,7 @@ use Rattle.table.specs.Verdict.{prefixOf, cycleOf}
 use Rattle.job_text.specs.Job.{Job, Outcome, job, readJob}
 use Rattle.job_text.specs.Asked.{jobTable, firstCause}
 use Rattle.answer_text.specs.Printed.{shown, prefix=, cycle=, listText, topText, bottomText, answerText}
-use Rattle.answer_text.proofs.Prints.{shown-length}
+use Rattle.job_values.proofs.Cut.{shown-length}
 use Rattle.answer_check.specs.declared.Checked.{Checked}
 use Rattle.answer_check.specs.declared.Checked.the-variants.{Refused}
 use Rattle.answer_form.specs.Form.{Said, run, verdictOf, columnOf, depthOf, roomOf, Says}

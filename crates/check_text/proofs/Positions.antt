@@ -14,7 +14,7 @@ use Rattle.job_text.specs.Text.{comma}
 use Rattle.job_text.specs.Job.{Outcome, job, fault as faulty, readJob}
 use Rattle.job_text.specs.Asked.{jobTable, firstCause}
 use Rattle.answer_text.specs.Printed.{stepText, furtherText, listText, shown, prefix=, cycle=, topText, bottomText, answerText}
-use Rattle.answer_text.proofs.Prints.{shown-length}
+use Rattle.job_values.proofs.Cut.{shown-length}
 use Rattle.answer_check.specs.declared.Checked.{Checked}
 use Rattle.answer_check.specs.declared.Checked.the-variants.{Accepted, Rejected, Refused}
 use Rattle.answer_check.specs.declared.Fault.{Fault}

@@ -4,7 +4,8 @@ use mathlib.Core.List.{List, [], _∷_, _++_}
 use Prim.Native.Nat.{ℕ, _+_, _-_, _*_, _/_, _%_, _^_}
 use lib.Dec.{ltb}
 use lib.ListN.{getD}
-use Rattle.job_text.specs.Text.{newline, comma}
+use Rattle.job_text.specs.Text.{comma}
+pub use Rattle.job_values.specs.Bytes.{shown}
 use Rattle.job_text.specs.Value.{hexDigits}
 use Rattle.job_text.specs.Job.{edge=}
 use Rattle.puts.specs.Put.{decimal, joined}
@@ -24,10 +25,6 @@ abbrev pub hexText : ℕ → List ℕ
 hexText set = joined (hexAt set) hexDigits
 
 -- ---- the lines
-
--- a key, its value, and "one newline byte"
-abbrev pub shown : List ℕ → List ℕ → List ℕ
-shown key value = (key ++ value) ++ (newline ∷ [])
 
 -- `edge=F,T,HHHHHHHH`
 unfoldable pub edgeText : ℕ → ℕ → ℕ → List ℕ

@@ -1,23 +1,28 @@
 -- Cutting a text at a byte: what a search for the byte finds, and what that says of fields. Assumes nothing.
 use mathlib.Core.Path.{_≡_, refl, ap, _∙_}
 use mathlib.Core.Bool.{Bool, true, false, cond, _&&_}
-use mathlib.Core.List.{List, [], _∷_}
+use mathlib.Core.List.{List, [], _∷_, _++_}
 use Prim.Native.Nat.{ℕ, suc, _+_, _-_, _≤_, _<_, zero-le, suc-le-suc}
 use native.Mathlib.Nat.{le-of-suc-le-suc}
 use native.Mathlib.Numerals.{add-one}
 use native.Mathlib.Omega.{arith}
 use lib.Dec.{eqb, leb}
-use lib.ListN.{length, getD, take, drop, drop-of-length-le, length-drop}
+use lib.ListN.{length, getD, take, drop, drop-of-length-le, length-append, length-drop}
 use lib.Seq.{drop-cons, drop-drop, take-all}
 use borrow.Author.Tests.{eq-eqb, ne-eqb, le-leb, lt-leb}
 use Rattle.marks.proofs.Cases.{below}
-use Rattle.job_values.specs.Bytes.{comma, fields, longerField, same, ahead, FirstAt}
+use Rattle.job_values.specs.Bytes.{newline, comma, shown, fields, longerField, same, ahead, FirstAt}
 use Rattle.table.specs.Row.{part}
 
 -- by a test's outcome
 pub byTest : {C : Type 0} (t : Bool) → (t ≡ true → C) → (t ≡ false → C) → C
 byTest true f g = f refl
 byTest false f g = g refl
+
+-- ---- a line
+
+pub shown-length : (key value : List ℕ) → length (shown key value) ≡ length key + length value + 1
+shown-length key value = omega (arith, length-append (key ++ value) (newline ∷ []), length-append key value)
 
 -- ---- the search
 

@@ -1,7 +1,7 @@
 -- Bytes: those that end lines and fields, fields, words (docs/RULES.md, "The job text and the printed answer"). Assumes nothing.
 use mathlib.Core.Path.{_≡_}
 use mathlib.Core.Bool.{Bool, true, false, cond, _&&_}
-use mathlib.Core.List.{List, [], _∷_}
+use mathlib.Core.List.{List, [], _∷_, _++_}
 use Prim.Native.Nat.{ℕ, suc, _+_, _≤_}
 use lib.Dec.{eqb}
 use lib.ListN.{length, drop}
@@ -11,6 +11,10 @@ newline = 10
 
 abbrev pub comma : ℕ
 comma = 44
+
+-- a line: its key, its value, and "one newline byte"
+abbrev pub shown : List ℕ → List ℕ → List ℕ
+shown key value = (key ++ value) ++ (newline ∷ [])
 
 -- ---- fields: what stands between commas, "numbers with commas"
 

@@ -2,7 +2,7 @@
 use mathlib.Core.Path.{_≡_, sym, ap, _∙_}
 use mathlib.Core.Bool.{Bool, true, false, cond}
 use mathlib.Core.List.{List, [], _∷_, _++_}
-use Prim.Native.Nat.{ℕ, zero, suc, _+_, _*_, _≤_, _<_}
+use Prim.Native.Nat.{ℕ, zero, suc, _*_, _≤_, _<_}
 use native.Mathlib.Omega.{arith}
 use lib.ListN.{length, getD, length-append}
 use Rattle.table.specs.declared.Acceptance.the-variants.{Buchi}
@@ -11,8 +11,9 @@ use Rattle.table.specs.Table.{lent}
 use Rattle.table.specs.Refusal.{refusal}
 use Rattle.table.proofs.Sound.{Fit, sound-fit}
 use Rattle.puts.specs.Put.{decimal}
+use Rattle.job_values.proofs.Cut.{shown-length}
 use Rattle.puts.proofs.Puts.{digits-few, decimal-three, joined-length, joined-zero}
-use Rattle.job_text.specs.Text.{newline, comma}
+use Rattle.job_text.specs.Text.{comma}
 use Rattle.job_text.specs.Value.{buchi, dash, job}
 use Rattle.job_text.specs.Job.{mostJobStates, mostJobEdges, form=, states=, start=, kind=, count=, need=, edges=, edge=, end=}
 use Rattle.job_text.proofs.Text.{byTest}
@@ -24,10 +25,6 @@ use Rattle.job_put_edges.proofs.Hex.{hex-length}
 use Rattle.job_writer.proofs.Lists.{not-large, limits}
 
 -- ---- lines
-
--- the key, the value and the newline byte
-shown-length : (key value : List ℕ) → length (shown key value) ≡ length key + length value + 1
-shown-length key value = omega (arith, length-append (key ++ value) (newline ∷ []), length-append key value)
 
 -- a digit has one
 one : (n : ℕ) → n < 10 → length (decimal n) ≤ 1

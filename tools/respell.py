@@ -128,16 +128,12 @@ def turned(path, text, dashed, said):
         return TOKEN.sub(token, text)
     # In a source the clauses alone: what stands in the braces behind `ghost`, `requires` and `ensures`.
     out, at = [], 0
-    for m in re.finditer(r"//[^\n]*|^\s*(?:pub )?(?:ghost|requires|ensures)\*?\b[^{\n;]*(?=\{)|^ghost use [^\n]*\n(?:    [^\n]*\n|\};[^\n]*\n)*", text, re.M):
+    for m in re.finditer(r"//[^\n]*|^\s*(?:pub )?ghost use [^{\n;]*(?=\{)|^\s*(?:pub )?(?:ghost|requires|ensures)\*?\b[^{\n;]*(?=\{)", text, re.M):
         if m.start() < at:
             continue
         out.append(text[at:m.start()])
         if m.group(0).startswith("//"):
             out.append(comment(m.group(0)))
-            at = m.end()
-            continue
-        if m.group(0).startswith("ghost use"):
-            out.append(TOKEN.sub(lambda t: FACTS["has"] if t.group(0) == "has" else token(t), m.group(0)))
             at = m.end()
             continue
         depth, end = 0, m.end()

@@ -1,9 +1,9 @@
 // Whether the marks on a cycle meet a condition, for Rabin with the pair that is named. Relies on `marks`.
 ghost use Rattle.std.specs.Prelude.{◌≡◌, true, false, ◌↔◌, ℕ, ◌+◌, ◌*◌, ◌≤◌, ◌<◌};
-ghost use Rattle.marks.specs.Mark.{has, width};
+ghost use Rattle.marks.specs.Mark.{Has, width};
 ghost use Rattle.table.specs.declared.Acceptance.TheVariants as acceptance;
 ghost use Rattle.table.specs.Condition.{dealt};
-ghost use Rattle.table.specs.Refusal.{mostStreett, mostRabin, wrongCondition};
+ghost use Rattle.table.specs.Refusal.{most_streett, most_rabin, wrong_condition};
 ghost use Rattle.answer_check.specs.Fault.{Meets};
 
 use marks::{covers, first_marks, has_mark};

@@ -2,7 +2,7 @@
 ghost use Rattle.std.specs.Prelude.{◌≡◌};
 ghost use Rattle.std.proofs.Math.Option.{some};
 ghost use Rattle.table.specs.inner.Looks.{Even};
-ghost use Rattle.answer_form.specs.Given.{listGiven};
+ghost use Rattle.answer_form.specs.Given.{list_given};
 ghost use Rattle.answer_check.specs.inner.{Lies, afresh, Through, Named, KnotSays, TurnedSays};
 
 use crate::Fault;

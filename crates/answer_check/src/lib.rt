@@ -8,7 +8,7 @@ mod walk;
 
 ghost use Rattle.std.specs.Prelude.{◌≡◌, false};
 ghost use Rattle.table.specs.Table.{Table, lent};
-ghost use Rattle.table.specs.Refusal.{refusal, wrongCondition};
+ghost use Rattle.table.specs.Refusal.{refusal, wrong_condition};
 ghost use Rattle.table.specs.inner.Looks.{Even};
 ghost use Rattle.answer_check.specs.Fault.{Judged};
 ghost use Rattle.answer_check.specs.Checking.{Told, ByCause, Checks};

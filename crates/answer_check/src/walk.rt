@@ -4,7 +4,7 @@ ghost use Rattle.std.specs.Prelude.{◌≡◌};
 ghost use Rattle.table.specs.Table.{waiting};
 ghost use Rattle.table.specs.inner.Looks.{Even};
 ghost use Rattle.job_text.specs.Text.{fields};
-ghost use Rattle.answer_form.specs.Given.{steps, listGiven};
+ghost use Rattle.answer_form.specs.Given.{steps, list_given};
 ghost use Rattle.answer_check.specs.inner.{outset, LeftBy, WaitSays, GoSays, WalkSays};
 
 use answer_form::{WAITING, read_step};

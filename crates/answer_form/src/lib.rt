@@ -3,9 +3,9 @@
 // specs/Given.antt. It serves `answer_check`.
 ghost use Rattle.std.specs.Prelude.{◌≡◌, false, ◌≤◌, length, drop};
 ghost use Rattle.job_text.specs.Value.{number};
-ghost use Rattle.job_values.specs.Given.{numberGiven};
+ghost use Rattle.job_values.specs.Given.{number_given};
 ghost use Rattle.job_text.specs.Text.{fields};
-ghost use Rattle.answer_form.specs.Given.{starts_with, ValueAt, step, steps, listGiven, is_some, pairGiven, ValuesAt, RunForm, whereGiven, refusedGiven, emptyGiven, no_run, FormOf};
+ghost use Rattle.answer_form.specs.Given.{starts_with, ValueAt, step, steps, list_given, is_some, pair_given, ValuesAt, RunForm, where_given, refused_given, empty_given, no_run, FormOf};
 
 use job_values::number::{Number, read_number};
 use job_values::part::{alike, find};

@@ -1,10 +1,10 @@
 // The printer of answers: eight lines into a lent buffer (docs/RULES.md, "The job text and the printed answer"). Relies on the crate `table` for the
 // verdict and on `puts` for bytes and numbers. What is printed is in specs/Printed.antt.
 ghost use Rattle.std.specs.Prelude.{◌≡◌, ◌+◌, ◌*◌, ◌^◌, ◌<◌, min, length, cond};
-ghost use Rattle.table.specs.Verdict.{number_of, place_of, prefix_of, cycleOf};
+ghost use Rattle.table.specs.Verdict.{number_of, place_of, prefix_of, cycle_of};
 ghost use Rattle.puts.specs.Put.{decimal, Put, PutFew};
 ghost use Rattle.job_text.specs.Value.{dash};
-ghost use Rattle.answer_text.specs.Printed.{stepText, furtherText, listText, shown, verdict=, pair=, verdictWord, isRabin, pairText, headText, top_text, bottomText, answerText, refusedText, Prints};
+ghost use Rattle.answer_text.specs.Printed.{step_text, further_text, list_text, shown, verdict=, pair=, verdict_word, is_rabin, pair_text, head_text, top_text, bottom_text, answer_text, refused_text, Prints};
 
 use puts::{clear, put, put_held, put_number, put_word};
 use table::{Acceptance, Answer, Verdict};

@@ -2,7 +2,7 @@
 // prints by `puts`. Where the job ends is in specs/Split.antt, what is printed in specs/Replied.antt.
 ghost use Rattle.std.specs.Prelude.{◌+◌, ◌≤◌, ◌<◌, ◌^◌};
 ghost use Rattle.puts.specs.Put.{PutFew};
-ghost use Rattle.check_text.specs.Replied.{top_text, faultLines, checkedText, CheckReplied};
+ghost use Rattle.check_text.specs.Replied.{top_text, fault_lines, checked_text, CheckReplied};
 ghost use Rattle.check_text.specs.inner.{JobEnds, HeardTo, Slight};
 
 use answer_check::{Checked, Fault, check_answer};

@@ -1,7 +1,7 @@
 // What a byte is worth as a digit (docs/RULES.md, "The job text and the printed answer"). Relies on nothing. Which bytes are digits is in specs/Digit.antt.
 ghost use Rattle.std.specs.Prelude.{◌≡◌};
-ghost use Rattle.digits.specs.Digit.{digit, hexDigit};
-ghost use Rattle.digits.specs.Given.{digitGiven};
+ghost use Rattle.digits.specs.Digit.{digit, hex_digit};
+ghost use Rattle.digits.specs.Given.{digit_given};
 
 // What a digit is worth, or that the byte is none.
 #[derive(Drop)]

@@ -1,6 +1,6 @@
 // The numbers of what the reader of the Hanoi format and the writers give.
 ghost use Rattle.std.specs.Prelude.{◌≡◌};
-ghost use Rattle.face.specs.Hoa.{acceptanceKind, acceptanceCount, findingNumber, findingPlace, hoaNumbers, textNumbers};
+ghost use Rattle.face.specs.Hoa.{acceptance_kind, acceptance_count, finding_number, finding_place, hoa_numbers, text_numbers};
 
 use crate::ANSWERED;
 use hoa::{Hoa, HoaFinding};

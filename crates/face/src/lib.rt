@@ -3,7 +3,7 @@
 pub mod hanoi;
 
 ghost use Rattle.std.specs.Prelude.{◌≡◌};
-ghost use Rattle.face.specs.Numbers.{answerNumbers, tableNumbers};
+ghost use Rattle.face.specs.Numbers.{answer_numbers, table_numbers};
 
 use one_mark::Translation;
 use table::{Answer, Verdict};

@@ -1,9 +1,9 @@
 // Reads a text of the Hanoi format into lent tables (docs/RULES.md, "The Hanoi format"): the header by `hoa_head`, the rows by `hoa_rows`.
 // What each text says is in specs/.
 ghost use Rattle.std.specs.Prelude.{◌≡◌};
-ghost use Rattle.hoa_step.specs.Given.{givenOr};
-ghost use Rattle.hoa.specs.Reading.{limitsOf};
-ghost use Rattle.hoa.specs.Returned.{refusedHoa, ReadInto};
+ghost use Rattle.hoa_step.specs.Given.{given_or};
+ghost use Rattle.hoa.specs.Reading.{limits_of};
+ghost use Rattle.hoa.specs.Returned.{refused_hoa, ReadInto};
 ghost use Rattle.hoa.specs.inner.{RowsReadInto};
 
 use hoa_entry::Limits;

@@ -1,6 +1,6 @@
 // A row's number, name and sig. Relies on `token` and `sig`, and on the crate `hoa_step`.
 ghost use Rattle.std.specs.Prelude.{◌≡◌};
-ghost use Rattle.hoa_step.specs.Given.{notBelow};
+ghost use Rattle.hoa_step.specs.Given.{not_below};
 ghost use Rattle.hoa_entry.specs.inner.Reads.{LabelledAt, NumberAt, NameAt, RowSigAt, RowAt};
 
 use crate::sig::{SigRead, read_sig};

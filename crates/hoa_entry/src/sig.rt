@@ -1,8 +1,8 @@
 // Signatures: the marks between `{` and `}`. Relies on `token` and on the crate `hoa_tokens`.
 ghost use Rattle.std.specs.Prelude.{◌≡◌, List, ℕ};
-ghost use Rattle.hoa_tokens.specs.Stream.{tokenOf};
-ghost use Rattle.hoa_entry.specs.Sig.{withMark, sigSign, sigStep};
-ghost use Rattle.hoa_entry.specs.inner.Reads.{sigStepOf, SigAt};
+ghost use Rattle.hoa_tokens.specs.Stream.{token_of};
+ghost use Rattle.hoa_entry.specs.Sig.{with_mark, sig_sign, sig_step};
+ghost use Rattle.hoa_entry.specs.inner.Reads.{sig_step_of, SigAt};
 
 use hoa_tokens::{Kind, Sign, token_at};
 

@@ -1,7 +1,7 @@
 // What a token is where the rows stand. Relies on the crate `hoa_tokens`.
 ghost use Rattle.std.specs.Prelude.{◌≡◌, List, ℕ};
-ghost use Rattle.hoa_tokens.specs.Stream.{tokenOf};
-ghost use Rattle.hoa_entry.specs.Rows.{entryHeader, entrySign, entry_of};
+ghost use Rattle.hoa_tokens.specs.Stream.{token_of};
+ghost use Rattle.hoa_entry.specs.Rows.{entry_header, entry_sign, entry_of};
 ghost use Rattle.hoa_entry.specs.inner.Reads.{EntryHere};
 
 use crate::Entry;

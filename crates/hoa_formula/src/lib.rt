@@ -1,9 +1,9 @@
 // The acceptance formula of the Hanoi format (docs/RULES.md, "The Hanoi format"): read by one loop over its tokens, with counters and no stack.
 // Relies on the crates `hoa_turn`, `hoa_standard`, `hoa_tokens` and `table`. The grammar is in specs/, the standard formulas and the admission of a token in hoa_standard/specs/.
 ghost use Rattle.std.specs.Prelude.{◌≡◌};
-ghost use Rattle.hoa_standard.specs.Formulas.{word_piece, signPiece};
+ghost use Rattle.hoa_standard.specs.Formulas.{word_piece, sign_piece};
 ghost use Rattle.hoa_formula.specs.Reading.{FormulaAt};
-ghost use Rattle.hoa_formula.specs.inner.Ends.{kindPiece, ifNone, completeTo, standardRead, completeRead, overRead};
+ghost use Rattle.hoa_formula.specs.inner.Ends.{kind_piece, if_none, complete_to, standard_read, complete_read, over_read};
 
 use hoa_standard::{Ahead, Past, Piece};
 use hoa_tokens::{Kind, Sign, Word, token_at};

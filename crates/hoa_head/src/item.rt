@@ -1,9 +1,9 @@
 // The items of the header, one after the other. Relies on the crate `hoa_value`.
 ghost use Rattle.std.specs.Prelude.{◌≡◌, ◌≤◌, ◌+◌, length};
-ghost use Rattle.hoa_step.specs.Given.{isGiven};
-ghost use Rattle.hoa_value.specs.Heading.{items, statesInt, startInt, propsInt, marksInt, accName, toolText, nameText, hints};
-ghost use Rattle.hoa_value.specs.Head.{withMarks, withAccName, withTool, withName};
-ghost use Rattle.hoa_head.specs.inner.Turns.{second, withNumbers, refusedTurn, passedTurn, bodyTurn, Turned, Opened};
+ghost use Rattle.hoa_step.specs.Given.{is_given};
+ghost use Rattle.hoa_value.specs.Heading.{items, states_int, start_int, props_int, marks_int, acc_name, tool_text, name_text, hints};
+ghost use Rattle.hoa_value.specs.Head.{with_marks, with_acc_name, with_tool, with_name};
+ghost use Rattle.hoa_head.specs.inner.Turns.{second, with_numbers, refused_turn, passed_turn, body_turn, Turned, Opened};
 
 use hoa_step::Given;
 use hoa_tokens::Header;

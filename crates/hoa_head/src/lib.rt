@@ -5,8 +5,8 @@ mod item;
 ghost use Rattle.std.specs.Prelude.{◌≡◌, ◌≤◌, length};
 ghost use Rattle.hoa_value.specs.Head.{blank};
 ghost use Rattle.hoa_head.specs.Headed.{Headed};
-ghost use Rattle.hoa_head.specs.inner.Openings.{openingFault, openingKind, versionFault, versionKind};
-ghost use Rattle.hoa_head.specs.inner.Turns.{refusedRead, ItemsRead};
+ghost use Rattle.hoa_head.specs.inner.Openings.{opening_fault, opening_kind, version_fault, version_kind};
+ghost use Rattle.hoa_head.specs.inner.Turns.{refused_read, ItemsRead};
 ghost use Rattle.hoa_head.specs.inner.Openings.{OpeningRead};
 
 use crate::item::{Turn, read_item};

@@ -1,11 +1,11 @@
 // Labels of the Hanoi format (docs/RULES.md, "The Hanoi format"): a label behind its `[`, read as a 64-bit set of valuations. Relies on `hoa_tokens`.
 // What a label is, which tokens are admitted and what the set means is in specs/.
 ghost use Rattle.std.specs.Prelude.{◌≡◌, List, ℕ, ◌≤◌};
-ghost use Rattle.hoa_tokens.specs.Stream.{tokenOf};
-ghost use Rattle.hoa_label.specs.Labels.{propSet, turned, wantedWord, wantedSign, wanted, behindSign, behind};
-ghost use Rattle.hoa_label.specs.Label.{mostLevels};
+ghost use Rattle.hoa_tokens.specs.Stream.{token_of};
+ghost use Rattle.hoa_label.specs.Labels.{prop_set, turned, wanted_word, wanted_sign, wanted, behind_sign, behind};
+ghost use Rattle.hoa_label.specs.Label.{most_levels};
 ghost use Rattle.hoa_label.specs.Reading.{LabelAt};
-ghost use Rattle.hoa_label.specs.inner.Levels.{flippedRead, FactorAt, LevelAt};
+ghost use Rattle.hoa_label.specs.inner.Levels.{flipped_read, FactorAt, LevelAt};
 
 use hoa_tokens::{Kind, Sign, Word, token_at};
 

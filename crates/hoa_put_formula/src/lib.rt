@@ -2,9 +2,9 @@
 // and on `puts` for bytes and numbers. What is written is in hoa_written/specs/Written.antt.
 ghost use Rattle.std.specs.Prelude.{◌≡◌, false, ◌+◌, ◌*◌, ◌^◌, ◌≤◌, ◌<◌, length};
 ghost use Rattle.table.specs.Condition.{dealt};
-ghost use Rattle.table.specs.Refusal.{wrongCondition};
+ghost use Rattle.table.specs.Refusal.{wrong_condition};
 ghost use Rattle.puts.specs.Put.{PutFew};
-ghost use Rattle.hoa_written.specs.Written.{furtherInfs, buchiText, streettPair, furtherStreett, streettText, rabinPair, furtherRabin, rabinText, formula, acceptanceText};
+ghost use Rattle.hoa_written.specs.Written.{further_infs, buchi_text, streett_pair, further_streett, streett_text, rabin_pair, further_rabin, rabin_text, formula, acceptance_text};
 
 use puts::{put, put_held};
 use table::Acceptance;

@@ -3,8 +3,8 @@
 // written is in hoa_written/specs/Written.antt.
 ghost use Rattle.std.specs.Prelude.{◌≡◌, ◌+◌, ◌*◌, ◌^◌, ◌≤◌, ◌<◌, length};
 ghost use Rattle.puts.specs.Put.{PutFew};
-ghost use Rattle.hoa_written.specs.Written.{markText, marksText, sigText, edgeText, rowsText};
-ghost use Rattle.hoa_put_rows.specs.inner.{Passed, edgesText, stateText};
+ghost use Rattle.hoa_written.specs.Written.{mark_text, marks_text, sig_text, edge_text, rows_text};
+ghost use Rattle.hoa_put_rows.specs.inner.{Passed, edges_text, state_text};
 
 use puts::{put, put_held, put_number, put_word};
 

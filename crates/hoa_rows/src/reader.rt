@@ -1,10 +1,10 @@
 // The rows token by token. Relies on the crates `hoa_entry`, `hoa_kept` and `hoa_tokens`.
 ghost use Rattle.std.specs.Prelude.{◌≡◌, List, ℕ};
-ghost use Rattle.hoa_tokens.specs.Stream.{tokenOf};
-ghost use Rattle.hoa_step.specs.Given.{notBelow};
-ghost use Rattle.hoa_rows.specs.Lent.{rowsEnd};
+ghost use Rattle.hoa_tokens.specs.Stream.{token_of};
+ghost use Rattle.hoa_step.specs.Given.{not_below};
+ghost use Rattle.hoa_rows.specs.Lent.{rows_end};
 ghost use Rattle.hoa_kept.specs.inner.Held.{Room, Blank};
-ghost use Rattle.hoa_rows.specs.inner.Turns.{endsWrong, admittedOf, closingHeaderFault, closingFault, CloseAt, RowTaken, EdgeTaken, Turned, Ended};
+ghost use Rattle.hoa_rows.specs.inner.Turns.{ends_wrong, admitted_of, closing_header_fault, closing_fault, CloseAt, RowTaken, EdgeTaken, Turned, Ended};
 
 use hoa_entry::edge::{EdgeRead, read_edge};
 use hoa_entry::row::{RowRead, read_row};

@@ -2,8 +2,8 @@
 // the tokens so far begin, with counts of open brackets. Relies on nothing. The standard formulas and the admission of a token are in specs/.
 // Four machines run side by side (specs/Machines.antt); since the first atoms tell the kinds apart, few states are met together, and each is one case here.
 ghost use Rattle.std.specs.Prelude.{◌≡◌, ◌+◌, ◌<◌};
-ghost use Rattle.hoa_standard.specs.inner.Sides.{aheadWithin, openedTo, infTo, finTo, truthTo, closedTo, andTo, orTo, firstPair, streettPast, closedPair, closedInf};
-ghost use Rattle.hoa_standard.specs.inner.Sides.{isLostAhead, isLostPast, bracketRoom};
+ghost use Rattle.hoa_standard.specs.inner.Sides.{AheadWithin, opened_to, inf_to, fin_to, truth_to, closed_to, and_to, or_to, first_pair, streett_past, closed_pair, closed_inf};
+ghost use Rattle.hoa_standard.specs.inner.Sides.{is_lost_ahead, is_lost_past, bracket_room};
 
 // A token as a formula sees it: brackets, signs, the words it knows, any other word, a number, `--ABORT--`, anything else.
 #[derive(Drop)]

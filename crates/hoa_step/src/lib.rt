@@ -2,7 +2,7 @@
 // (docs/RULES.md, "The Hanoi format"). Relies on the crate `hoa_tokens`.
 ghost use Rattle.std.specs.Prelude.{◌≡◌};
 ghost use Rattle.hoa_step.specs.Wanted.{IntReads, TextReads};
-ghost use Rattle.hoa_step.specs.inner.Kinds.{intKind, textKind};
+ghost use Rattle.hoa_step.specs.inner.Kinds.{int_kind, text_kind};
 
 use hoa_tokens::{Kind, token_at};
 

@@ -1,7 +1,7 @@
 // Bytes of a text: their classes, runs of a class, and whether two parts are the same bytes. Relies on nothing.
 ghost use Rattle.std.specs.Prelude.{◌≡◌};
-ghost use Rattle.hoa_tokens.specs.Bytes.{isDigit, isCapital, isLetter, isName, isBlank, same};
-ghost use Rattle.hoa_tokens.specs.inner.Reads.{inClass, RunTo};
+ghost use Rattle.hoa_tokens.specs.Bytes.{is_digit, is_capital, is_letter, is_name, is_blank, same};
+ghost use Rattle.hoa_tokens.specs.inner.Reads.{in_class, RunTo};
 
 // Whether the byte is a digit.
 pub(crate) fn is_digit(byte: u8) -> bool

@@ -1,6 +1,6 @@
 // The token at a place where neither a blank nor a comment stands. Relies on `bytes`, `name`, `number` and `string`.
 ghost use Rattle.std.specs.Prelude.{◌≡◌, ◌≤◌, ◌<◌, length, drop};
-ghost use Rattle.hoa_tokens.specs.Token.{begins as beginsWith, fixed as fixedToken, sign_of, single as singleToken, front as frontToken};
+ghost use Rattle.hoa_tokens.specs.Token.{begins as begins_with, fixed as fixed_token, sign_of, single as single_token, front as front_token};
 ghost use Rattle.hoa_tokens.specs.inner.Reads.{Reads, Says};
 
 use crate::bytes::{alike, is_digit, is_letter};

@@ -1,6 +1,6 @@
 // What stands between tokens: blanks and comments, which nest. Relies on `bytes`.
 ghost use Rattle.std.specs.Prelude.{◌≡◌, ◌<◌, length};
-ghost use Rattle.hoa_tokens.specs.inner.Reads.{stand as standing, gapFrom, aheadGap, Inside, Spotted, CommentAt, HopAt};
+ghost use Rattle.hoa_tokens.specs.inner.Reads.{stand as standing, gap_from, ahead_gap, Inside, Spotted, CommentAt, HopAt};
 
 use crate::bytes::is_blank;
 

@@ -1,6 +1,6 @@
 // Words, headers and the names of aliases. Relies on `bytes`.
 ghost use Rattle.std.specs.Prelude.{◌≡◌, ◌+◌, ◌≤◌, ◌<◌, eqb, length, drop, get_or};
-ghost use Rattle.hoa_tokens.specs.Token.{word_of, unknown as unknownHeader, furtherHeader, headerOf, named as namedToken, at as atToken};
+ghost use Rattle.hoa_tokens.specs.Token.{word_of, unknown as unknown_header, further_header, header_of, named as named_token, at as at_token};
 ghost use Rattle.hoa_tokens.specs.inner.Reads.{Reads};
 
 use crate::bytes::{Class, alike, is_capital, run_end};

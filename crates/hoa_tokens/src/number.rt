@@ -1,7 +1,7 @@
 // Numbers: a run of digits and its value. Relies on `bytes`.
 ghost use Rattle.std.specs.Prelude.{◌≡◌, ◌-◌, ◌≤◌, length, drop};
-ghost use Rattle.hoa_tokens.specs.Token.{spelt, digits as digitsToken, number as numberToken};
-ghost use Rattle.hoa_tokens.specs.inner.Reads.{Says, ofValue, Reads};
+ghost use Rattle.hoa_tokens.specs.Token.{spelt, digits as digits_token, number as number_token};
+ghost use Rattle.hoa_tokens.specs.inner.Reads.{Says, of_value, Reads};
 
 use crate::bytes::{Class, run_end};
 use crate::{Found, Kind};

@@ -1,6 +1,6 @@
 // The needs of a Rabin formula's pairs, counted while its tokens are read. Relies on `step` and on the crate `hoa_standard`.
 ghost use Rattle.std.specs.Prelude.{◌≡◌, ◌<◌};
-ghost use Rattle.hoa_turn.specs.inner.Counts.{Room, Bounded, neededTo, begunTo, countedTo};
+ghost use Rattle.hoa_turn.specs.inner.Counts.{Room, Bounded, needed_to, begun_to, counted_to};
 
 use crate::step::{Stage, opens_pair};
 use hoa_standard::{Ahead, Piece};

@@ -1,8 +1,8 @@
 // One token of a formula: the reader's turn. Relies on the crate `hoa_standard`.
 ghost use Rattle.std.specs.Prelude.{◌≡◌, ◌<◌, ◌≤◌};
 ghost use Rattle.hoa_standard.specs.Formulas.{astray};
-ghost use Rattle.hoa_standard.specs.inner.Sides.{aheadWithin, bracketRoom};
-ghost use Rattle.hoa_turn.specs.inner.Turns.{Within, opensPairAhead, goAhead, goNamed, goPast, on_operand, onNamed, onBracket, onNumber, on_after, turnAt};
+ghost use Rattle.hoa_standard.specs.inner.Sides.{AheadWithin, bracket_room};
+ghost use Rattle.hoa_turn.specs.inner.Turns.{Within, opens_pair_ahead, go_ahead, go_named, go_past, on_operand, on_named, on_bracket, on_number, on_after, turn_at};
 
 use hoa_standard::{
     Ahead, Past, Piece, begun_fin, begun_inf, begun_truth, closed, joined_and, joined_or,

@@ -1,6 +1,6 @@
 // What is passed over: the words of acc-name:, properties: and unknown items, the STRINGs of tool: and name:. Relies on `token`, and on the crate `hoa_step`.
 ghost use Rattle.std.specs.Prelude.{◌≤◌, length};
-ghost use Rattle.hoa_value.specs.Heading.{items, accName, toolText, nameText};
+ghost use Rattle.hoa_value.specs.Heading.{items, acc_name, tool_text, name_text};
 ghost use Rattle.hoa_value.specs.inner.Values.{Passes, HintsPassed};
 
 use crate::token::{is_hint, is_text, is_word, look, misplaced};

@@ -1,9 +1,9 @@
 // The INT of AP: and its names. Relies on `token`, and on the crates `hoa_step` and `hoa_tokens`.
 ghost use Rattle.std.specs.Prelude.{◌≡◌, ◌≤◌, ◌<◌, length};
 ghost use Rattle.hoa_tokens.specs.Stream.{part};
-ghost use Rattle.hoa_value.specs.Heading.{nameCame};
+ghost use Rattle.hoa_value.specs.Heading.{name_came};
 ghost use Rattle.hoa_value.specs.inner.Values.{PropsRead};
-ghost use Rattle.hoa_value.specs.inner.Names.{nameList, Spans, OneName, NamesOver, NamesRead};
+ghost use Rattle.hoa_value.specs.inner.Names.{name_list, Spans, OneName, NamesOver, NamesRead};
 
 use crate::hint::Passed;
 use crate::token::{is_text, look, misplaced};

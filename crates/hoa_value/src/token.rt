@@ -1,7 +1,7 @@
 // What a token is where the header stands, and whether it belongs to what stands before it. Relies on the crate `hoa_tokens`.
 ghost use Rattle.std.specs.Prelude.{◌≡◌};
-ghost use Rattle.hoa_value.specs.Heading.{pieceHeader, pieceSign};
-ghost use Rattle.hoa_value.specs.inner.Pieces.{pieceKind, misplacedNumber, isJoin, isText, isWord, isHint, Spotted};
+ghost use Rattle.hoa_value.specs.Heading.{piece_header, piece_sign};
+ghost use Rattle.hoa_value.specs.inner.Pieces.{piece_kind, misplaced_number, is_join, is_text, is_word, is_hint, Spotted};
 
 use crate::Piece;
 use hoa_tokens::{Header, Kind, Sign, token_at};

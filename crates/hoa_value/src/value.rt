@@ -1,8 +1,8 @@
 // The INTs of States: and Start:. Relies on `token`, and on the crate `hoa_step`.
 ghost use Rattle.std.specs.Prelude.{◌≡◌, ◌≤◌, length};
-ghost use Rattle.hoa_step.specs.Given.{notBelow, notAbove};
-ghost use Rattle.hoa_value.specs.Heading.{startMore, items};
-ghost use Rattle.hoa_value.specs.inner.Values.{countedBy, statesFault, startFault, StatesRead, StartRead, Passes};
+ghost use Rattle.hoa_step.specs.Given.{not_below, not_above};
+ghost use Rattle.hoa_value.specs.Heading.{start_more, items};
+ghost use Rattle.hoa_value.specs.inner.Values.{counted_by, states_fault, start_fault, StatesRead, StartRead, Passes};
 
 use crate::hint::Passed;
 use crate::token::{is_join, look};

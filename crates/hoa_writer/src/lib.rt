@@ -3,10 +3,10 @@
 // hoa_written/specs/Written.antt, what the writer gives for every input in hoa_written/specs/Writing.antt.
 ghost use Rattle.std.specs.Prelude.{◌≡◌, false, ◌≤◌};
 ghost use Rattle.table.specs.Table.{lent};
-ghost use Rattle.table.specs.Refusal.{refusal, wrongCondition};
+ghost use Rattle.table.specs.Refusal.{refusal, wrong_condition};
 ghost use Rattle.puts.specs.Put.{Put, PutFew};
-ghost use Rattle.hoa_written.specs.Written.{hoaText, headText};
-ghost use Rattle.hoa_written.specs.Writing.{Writes, mostWritten};
+ghost use Rattle.hoa_written.specs.Written.{hoa_text, head_text};
+ghost use Rattle.hoa_written.specs.Writing.{Writes, most_written};
 ghost use Rattle.hoa_put_rows.specs.inner.{Passed};
 
 use table::{Acceptance, Finding};

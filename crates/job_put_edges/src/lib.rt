@@ -2,7 +2,7 @@
 // the functions ask in specs/inner.antt.
 ghost use Rattle.std.specs.Prelude.{◌≡◌, ◌^◌, ◌<◌, length};
 ghost use Rattle.puts.specs.Put.{PutFew};
-ghost use Rattle.job_put_edges.specs.Edges.{hexByte, hexText, edgeText, edgesText};
+ghost use Rattle.job_put_edges.specs.Edges.{hex_byte, hex_text, edge_text, edges_text};
 ghost use Rattle.job_put_edges.specs.inner.{Passed};
 
 use puts::{put, put_held};

@@ -2,9 +2,9 @@
 // crate `job_values`.
 ghost use Rattle.std.specs.Prelude.{◌≡◌, suc, ◌-◌, ◌≤◌, ◌<◌, length, drop};
 ghost use Rattle.job_text.specs.Text.{lines};
-ghost use Rattle.job_text.specs.Value.{number, edge, needs, end, mostCount};
-ghost use Rattle.job_text.specs.Job.{asked, above, unlimited, need=, edge=, end=, formLine, kindLine};
-ghost use Rattle.job_text.specs.Given.{noSpan, SpanAt, faultAt, needFault, NumberAt, FormAt, KindAt, NeedAt, EdgeAt, EndAt};
+ghost use Rattle.job_text.specs.Value.{number, edge, needs, end, most_count};
+ghost use Rattle.job_text.specs.Job.{asked, above, unlimited, need=, edge=, end=, form_line, kind_line};
+ghost use Rattle.job_text.specs.Given.{no_span, SpanAt, fault_at, need_fault, NumberAt, FormAt, KindAt, NeedAt, EdgeAt, EndAt};
 
 use job_values::field::{Field, number_field};
 use job_values::part::{alike, find};

@@ -2,9 +2,9 @@
 // The edges are read into arrays of the reader's own and handed over at the end, so that a refusal changes no lent cell.
 ghost use Rattle.std.specs.Prelude.{◌≡◌, ◌≤◌, ◌<◌, drop};
 ghost use Rattle.job_text.specs.Text.{lines};
-ghost use Rattle.job_text.specs.Value.{mostCount, condition};
-ghost use Rattle.job_text.specs.Job.{countLines, stateLines, headLines, endLines};
-ghost use Rattle.job_text.specs.Reading.{noFault, numberFault, edgeFault, stepFault, refusedHead, HeadAt, Blank, EdgesAt, EndedAt, BodyAt, refusedReading, Read};
+ghost use Rattle.job_text.specs.Value.{most_count, condition};
+ghost use Rattle.job_text.specs.Job.{count_lines, state_lines, head_lines, end_lines};
+ghost use Rattle.job_text.specs.Reading.{no_fault, number_fault, edge_fault, step_fault, refused_head, HeadAt, Blank, EdgesAt, EndedAt, BodyAt, refused_reading, Read};
 
 use crate::line::{
     EdgeLine, Fault, FormLine, KindLine, NumberLine, Step, edge_line, end_line, form_line,

@@ -4,7 +4,7 @@ ghost use Rattle.std.specs.Prelude.{◌≡◌, ◌+◌};
 ghost use Rattle.std.proofs.Math.Option.{none};
 ghost use Rattle.digits.specs.Digit.{digit};
 ghost use Rattle.job_values.specs.Bytes.{newline};
-ghost use Rattle.job_values.specs.Number.{number, hexWord};
+ghost use Rattle.job_values.specs.Number.{number, hex_word};
 ghost use Rattle.table.specs.Row.{part};
 ghost use Rattle.job_values.specs.inner.Field.{Within, FieldAt, RunAt, agree};
 

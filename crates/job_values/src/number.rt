@@ -1,8 +1,8 @@
 // A number of the job text in bytes of its own, as an answer text has them. Relies on the crate `digits`.
 ghost use Rattle.std.specs.Prelude.{◌≡◌};
 ghost use Rattle.digits.specs.Digit.{digit};
-ghost use Rattle.job_values.specs.Number.{spelt, at_most, mostNumber, leadingZero, number};
-ghost use Rattle.job_values.specs.Given.{numberGiven};
+ghost use Rattle.job_values.specs.Number.{spelt, at_most, most_number, leading_zero, number};
+ghost use Rattle.job_values.specs.Given.{number_given};
 
 use crate::field::MOST_NUMBER;
 use digits::{Digit, digit_value};

@@ -1,10 +1,10 @@
 // The values of the job text. `at` is where a value begins, `end` where its line's newline byte stands. Relies on `field` and `part`.
 ghost use Rattle.std.specs.Prelude.{◌≡◌, ◌≤◌, ◌<◌};
-ghost use Rattle.table.specs.Refusal.{mostRabin};
+ghost use Rattle.table.specs.Refusal.{most_rabin};
 ghost use Rattle.job_values.specs.Bytes.{fields};
-ghost use Rattle.job_values.specs.Value.{usualKind, listed, eight, hasNeeds, needs, mostCount};
+ghost use Rattle.job_values.specs.Value.{usual_kind, listed, eight, has_needs, needs, most_count};
 ghost use Rattle.job_values.specs.inner.Field.{Within};
-ghost use Rattle.job_values.specs.inner.Told.{wrongPlace, EdgeAt, WordAt, FormAt, EndAt, KindAt, Further, ListAt, noNeeds};
+ghost use Rattle.job_values.specs.inner.Told.{wrong_place, EdgeAt, WordAt, FormAt, EndAt, KindAt, Further, ListAt, no_needs};
 
 use crate::field::{Field, marks_field, number_field, word_run};
 use crate::part::alike;

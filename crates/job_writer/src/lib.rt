@@ -5,7 +5,7 @@ ghost use Rattle.std.specs.Prelude.{◌≡◌, []};
 ghost use Rattle.table.specs.Table.{lent};
 ghost use Rattle.table.specs.Refusal.{refusal};
 ghost use Rattle.puts.specs.Put.{Put, PutFew};
-ghost use Rattle.job_writer.specs.Written.{headText, jobText};
+ghost use Rattle.job_writer.specs.Written.{head_text, job_text};
 ghost use Rattle.job_writer.specs.Writing.{large, Writes};
 ghost use Rattle.job_put_edges.specs.inner.{Passed};
 

@@ -2,9 +2,9 @@
 // `job_text`, judges by `judging`, prints by `answer_text`. What a text is answered is in specs/Replied.antt. The same for a text of the Hanoi format, read by
 // `hoa`: specs/HoaReplied.antt.
 ghost use Rattle.std.specs.Prelude.{◌≤◌, length};
-ghost use Rattle.answer_text.specs.Printed.{answerText, refusedText, mostPrinted};
+ghost use Rattle.answer_text.specs.Printed.{answer_text, refused_text, most_printed};
 ghost use Rattle.table.specs.Table.{lent};
-ghost use Rattle.job_text.specs.Job.{mostJobStates, mostJobEdges};
+ghost use Rattle.job_text.specs.Job.{most_job_states, most_job_edges};
 ghost use Rattle.judge_text.specs.Replied.{Holds, Replied};
 ghost use Rattle.judge_text.specs.HoaReplied.{HoaReplied};
 ghost use Rattle.judge_text.specs.inner.{Judged};

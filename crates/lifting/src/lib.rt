@@ -5,7 +5,7 @@ ghost use Rattle.table.specs.Table.{lent};
 ghost use Rattle.table.specs.Refusal.{Proper};
 ghost use Rattle.climbing.specs.Source.{source};
 ghost use Rattle.climbing.specs.inner.{Ladder};
-ghost use Rattle.lifting.specs.inner.{Wrote, Room, RowAsked, LevelWritten, RowWritten, orLoop, StateWritten, StatesWritten};
+ghost use Rattle.lifting.specs.inner.{Wrote, Room, RowAsked, LevelWritten, RowWritten, or_loop, StateWritten, StatesWritten};
 
 use climbing::levels::{Shape, land, number_of};
 use climbing::stops::loops;

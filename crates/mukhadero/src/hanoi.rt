@@ -1,7 +1,7 @@
 // The C face of the Hanoi format (docs/RULES.md, "The Hanoi format"): the proved reader and the proved writer under C names, with their answers in
 // plain numbers (`face`). Each function takes any input; relies on `hoa` and `hoa_writer` for all that it says.
 ghost use Rattle.table.specs.Table.{lent};
-ghost use Rattle.mukhadero.specs.Numbers.{noNeeds};
+ghost use Rattle.mukhadero.specs.Numbers.{no_needs};
 ghost use Rattle.mukhadero.specs.Hoa.{ReadTells, WriteTells};
 
 use face::hanoi::{HoaNumbers, TextNumbers, hoa_numbers, text_numbers};

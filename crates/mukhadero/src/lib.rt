@@ -5,7 +5,7 @@ mod job;
 
 ghost use Rattle.std.specs.Prelude.{◌≡◌};
 ghost use Rattle.table.specs.Table.{lent};
-ghost use Rattle.mukhadero.specs.Numbers.{JudgeTells, noNeeds, TranslationTells};
+ghost use Rattle.mukhadero.specs.Numbers.{JudgeTells, no_needs, TranslationTells};
 
 use face::{AnswerNumbers, TableNumbers, answer_numbers, table_numbers};
 use judging::judge;

@@ -1,7 +1,7 @@
 // Row 4, and how many marks a condition uses.
 ghost use Rattle.std.specs.Prelude.{◌≡◌, true, false, ◌≤◌, drop};
 ghost use Rattle.table.specs.Condition.{dealt};
-ghost use Rattle.table.specs.Refusal.{someNeed, used, wrongCondition, mostRabin};
+ghost use Rattle.table.specs.Refusal.{some_need, used, wrong_condition, most_rabin};
 
 use crate::Acceptance;
 use marks::WIDTH;

@@ -3,7 +3,7 @@
 // table with start 0.
 ghost use Rattle.std.specs.Prelude.{◌≡◌, true, ◌≤◌, length};
 ghost use Rattle.table.specs.Table.{Table, lent};
-ghost use Rattle.table.specs.Refusal.{edgeRefusal, mostEdges};
+ghost use Rattle.table.specs.Refusal.{edge_refusal, most_edges};
 ghost use Rattle.table.specs.inner.Looks.{Even, Above, Shows};
 
 use crate::Finding;

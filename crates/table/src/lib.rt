@@ -6,7 +6,7 @@ pub mod row;
 
 ghost use Rattle.std.specs.Prelude.{◌≡◌, cond};
 ghost use Rattle.table.specs.Table.{lent};
-ghost use Rattle.table.specs.Refusal.{refusal, used, wrongCondition};
+ghost use Rattle.table.specs.Refusal.{refusal, used, wrong_condition};
 
 pub const MOST_STATES: u32 = 4096;
 

@@ -2,11 +2,11 @@
 // printed answer", the writer). Reads by `job_text`, translates by `one_mark`, writes by `job_writer`, prints a refusal by `answer_text`. What a text is
 // translated into is in specs/Turned.antt.
 ghost use Rattle.table.specs.Table.{lent};
-ghost use Rattle.answer_text.specs.Printed.{refusedText};
+ghost use Rattle.answer_text.specs.Printed.{refused_text};
 ghost use Rattle.writing.specs.Writing.{Stands};
-ghost use Rattle.job_writer.specs.Writing.{mostBytes};
-ghost use Rattle.translate_text.specs.Turned.{turnedTable, Turned};
-ghost use Rattle.translate_text.specs.inner.{writtenTable};
+ghost use Rattle.job_writer.specs.Writing.{most_bytes};
+ghost use Rattle.translate_text.specs.Turned.{turned_table, Turned};
+ghost use Rattle.translate_text.specs.inner.{written_table};
 
 use answer_text::{Printed, print_refused};
 use job_text::reader::read;

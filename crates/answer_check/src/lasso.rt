@@ -9,7 +9,7 @@ use crate::Fault;
 use crate::walk::{Place, Walked, set_out, walk};
 
 // A closed cycle with the marks on it, or the first fault and its position.
-#[derive(Drop)]
+#[derive(Clone, Copy)]
 pub(crate) enum Turned {
     Closed { union: u32 },
     Faulty { fault: Fault, position: usize },

@@ -2,6 +2,8 @@
 // fault. Nothing is searched and nothing stored: the answer's bytes are read once for their form and once along the edges. Relies on `job_text` for the job, on
 // `table` for rows 1 to 7 and on `answer_form` for the form. What is well formed is in answer_form's specs/Form.antt, what the faults are in specs/Fault.antt, the
 // whole promise in specs/Checking.antt.
+#![tactic(auto)]
+
 mod condition;
 mod lasso;
 mod walk;
@@ -22,7 +24,7 @@ use job_text::reader::read;
 use table::{Acceptance, Finding};
 
 // What is wrong with a run: its prefix breaks, its cycle is empty, its cycle breaks or does not close, or the condition is not met.
-#[derive(Drop)]
+#[derive(Clone, Copy)]
 pub enum Fault {
     Prefix,
     Empty,
@@ -31,7 +33,7 @@ pub enum Fault {
 }
 
 // What checking gives: the answer is accepted; or its first fault, with its position; or number, place and column of a refusal.
-#[derive(Drop)]
+#[derive(Clone, Copy)]
 pub enum Checked {
     Accepted,
     Rejected {

@@ -14,7 +14,7 @@ use job_values::part::{alike, find};
 const COMMA: u8 = 44;
 
 // Where a walk has come: its state, the marks on the way, and whether it was seen to wait there.
-#[derive(Drop)]
+#[derive(Clone, Copy)]
 pub(crate) struct Place {
     pub state: u32,
     pub union: u32,
@@ -22,14 +22,14 @@ pub(crate) struct Place {
 }
 
 // One edge further, or no such step.
-#[derive(Drop)]
+#[derive(Clone, Copy)]
 pub(crate) enum Went {
     On(Place),
     Stuck,
 }
 
 // The whole list walked, with the place at its end and the number of its edges; or the position at which it breaks.
-#[derive(Drop)]
+#[derive(Clone, Copy)]
 pub(crate) enum Walked {
     Through { place: Place, count: usize },
     Broken { position: usize },

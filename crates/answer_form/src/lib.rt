@@ -1,6 +1,8 @@
 // The reader of answer texts, the inverse of the printer: whether a text is one that an answer of ours prints, and where a run's lists stand in it. Nothing is
 // stored. Relies on `job_values` for numbers and for searching and comparing bytes. Which texts are ours is in specs/Form.antt, what the reader gives in
 // specs/Given.antt. It serves `answer_check`.
+#![tactic(auto)]
+
 ghost use Rattle.std.specs.Prelude.{◌≡◌, false, ◌≤◌, length, drop};
 ghost use Rattle.job_text.specs.Value.{number};
 ghost use Rattle.job_values.specs.Given.{number_given};
@@ -18,7 +20,7 @@ const COMMA: u8 = 44;
 pub const WAITING: u32 = 65535;
 
 // Whether a value is there with the word that follows it, and then where the value ends and what follows the word begins.
-#[derive(Drop)]
+#[derive(Clone, Copy)]
 pub(crate) struct Value {
     pub found: bool,
     pub end: usize,
@@ -26,7 +28,7 @@ pub(crate) struct Value {
 }
 
 // Whether a run's values are all there, and then where its pair ends, where its prefix begins and ends, and where its cycle does.
-#[derive(Drop)]
+#[derive(Clone, Copy)]
 pub(crate) struct RunValues {
     pub found: bool,
     pub pair: usize,
@@ -38,7 +40,7 @@ pub(crate) struct RunValues {
 
 // What an answer text is: no answer of ours, one that is no run, or a run with its pair and where its prefix
 // begins and ends, and its cycle.
-#[derive(Drop)]
+#[derive(Clone, Copy)]
 pub enum Form {
     Malformed,
     NoRun,

@@ -1,5 +1,7 @@
 // The printer of answers: eight lines into a lent buffer (docs/RULES.md, "The job text and the printed answer"). Relies on the crate `table` for the
 // verdict and on `puts` for bytes and numbers. What is printed is in specs/Printed.antt.
+#![tactic(auto)]
+
 ghost use Rattle.std.specs.Prelude.{◌≡◌, ◌+◌, ◌*◌, ◌^◌, ◌<◌, min, length, cond};
 ghost use Rattle.table.specs.Verdict.{number_of, place_of, prefix_of, cycle_of};
 ghost use Rattle.puts.specs.Put.{decimal, Put, PutFew};
@@ -13,7 +15,7 @@ use table::{Acceptance, Answer, Verdict};
 const WAITING: u32 = 65535;
 
 // What printing gives: the text's length, or row 11, the buffer being too short.
-#[derive(Drop)]
+#[derive(Clone, Copy)]
 pub enum Printed {
     Text { length: usize },
     Refused { number: u32, place: u32 },

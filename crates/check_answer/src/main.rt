@@ -1,6 +1,8 @@
 // The program check_answer: reads a job text with an answer behind it from standard input and writes what checking the answer gives to standard output. It only reads,
 // calls `check_text` and writes: what is printed for an input is promised there. A read or a write that fails is told on standard error; an input that could not be read
 // gets no answer.
+#![tactic(auto)]
+
 use check_text::{MOST_CHECKED, check_text};
 use libc::STDOUT_FILENO;
 use text_input::{Input, read_input};

@@ -1,5 +1,7 @@
 // From bytes to bytes: a job and an answer on one input, and what checking the answer gives (docs/RULES.md, "An answer that is checked"). Checks by `answer_check`,
 // prints by `puts`. Where the job ends is in specs/Split.antt, what is printed in specs/Replied.antt.
+#![tactic(auto)]
+
 ghost use Rattle.std.specs.Prelude.{◌+◌, ◌≤◌, ◌<◌, ◌^◌};
 ghost use Rattle.puts.specs.Put.{PutFew};
 ghost use Rattle.check_text.specs.Replied.{top_text, fault_lines, checked_text, CheckReplied};

@@ -7,7 +7,7 @@ ghost use Rattle.climbing.specs.inner.{Ladder};
 use marks::Marks;
 
 // What all of a translation goes by: the number of states, the number k of marks and the number K of levels.
-#[derive(Drop)]
+#[derive(Clone, Copy)]
 pub struct Shape {
     pub states: u32,
     pub k: u32,
@@ -40,7 +40,7 @@ fn climb(marks: Marks, level: u32, k: u32) -> u32
 }
 
 // Where an edge lands: the level at which the translated edge arrives, and the marks that it bears.
-#[derive(Drop)]
+#[derive(Clone, Copy)]
 pub struct Landing {
     pub level: u32,
     pub marks: Marks,

@@ -1,10 +1,12 @@
 // What a byte is worth as a digit (docs/RULES.md, "The job text and the printed answer"). Relies on nothing. Which bytes are digits is in specs/Digit.antt.
+#![tactic(auto)]
+
 ghost use Rattle.std.specs.Prelude.{◌≡◌};
 ghost use Rattle.digits.specs.Digit.{digit, hex_digit};
 ghost use Rattle.digits.specs.Given.{digit_given};
 
 // What a digit is worth, or that the byte is none.
-#[derive(Drop)]
+#[derive(Clone, Copy)]
 pub enum Digit {
     Value(u32),
     Wrong,

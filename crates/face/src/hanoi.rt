@@ -15,7 +15,7 @@ const RABIN: u32 = 2;
 
 // `mukhadero_hoa`: all but number and place are 0 if it was refused.
 #[repr(C)]
-#[derive(Drop)]
+#[derive(Clone, Copy)]
 pub struct HoaNumbers {
     pub number: u32,
     pub kind: u32,
@@ -30,7 +30,7 @@ pub struct HoaNumbers {
 
 // `mukhadero_text`: the length is 0 if it was refused.
 #[repr(C)]
-#[derive(Drop)]
+#[derive(Clone, Copy)]
 pub struct TextNumbers {
     pub number: u32,
     pub place: u32,

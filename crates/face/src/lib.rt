@@ -1,5 +1,7 @@
 // What the C face tells, in plain numbers: the structs of include/mukhadero.h, and the numbers of a judge's answer and of the translation's. Those of the
 // Hanoi format and of the writers are in `hanoi`. Each function takes any input.
+#![tactic(auto)]
+
 pub mod hanoi;
 
 ghost use Rattle.std.specs.Prelude.{◌≡◌};
@@ -18,7 +20,7 @@ pub(crate) const ANSWERED: u32 = 0;
 
 // `mukhadero_answer`: a field that has no meaning for the verdict is 0.
 #[repr(C)]
-#[derive(Drop)]
+#[derive(Clone, Copy)]
 pub struct AnswerNumbers {
     pub verdict: u32,
     pub number: u32,
@@ -34,7 +36,7 @@ pub struct AnswerNumbers {
 
 // `mukhadero_table`: all but number and place are 0 if it was refused.
 #[repr(C)]
-#[derive(Drop)]
+#[derive(Clone, Copy)]
 pub struct TableNumbers {
     pub number: u32,
     pub place: u32,

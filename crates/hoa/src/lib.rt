@@ -1,5 +1,7 @@
 // Reads a text of the Hanoi format into lent tables (docs/RULES.md, "The Hanoi format"): the header by `hoa_head`, the rows by `hoa_rows`.
 // What each text says is in specs/.
+#![tactic(auto)]
+
 ghost use Rattle.std.specs.Prelude.{◌≡◌};
 ghost use Rattle.hoa_step.specs.Given.{given_or};
 ghost use Rattle.hoa.specs.Reading.{limits_of};
@@ -14,14 +16,14 @@ use hoa_value::Head;
 use table::Acceptance;
 
 // Whether the text is read, or why not, with number and place.
-#[derive(Drop)]
+#[derive(Clone, Copy)]
 pub enum HoaFinding {
     Read,
     Refused { number: u32, place: usize },
 }
 
 // What reading a text gives. Where it is refused the numbers are 0, and the condition is Büchi 0.
-#[derive(Drop)]
+#[derive(Clone, Copy)]
 pub struct Hoa {
     pub finding: HoaFinding,
     pub states: u32,

@@ -12,14 +12,14 @@ use hoa_step::{Given, IntRead, read_int};
 const MOST_EDGES: usize = 512;
 
 // A target and the byte behind it, or the refusal.
-#[derive(Drop)]
+#[derive(Clone, Copy)]
 pub enum TargetRead {
     Target { to: u32, next: usize },
     Refused { number: u32, place: usize },
 }
 
 // An edge with its set of valuations, target and marks, and the byte behind it, or the refusal.
-#[derive(Drop)]
+#[derive(Clone, Copy)]
 pub enum EdgeRead {
     Edge {
         set: u64,

@@ -12,14 +12,14 @@ use hoa_step::{Given, IntRead, read_int};
 pub(crate) const MOST_STATES: u32 = 256;
 
 // A row's number and the byte behind it, or the refusal.
-#[derive(Drop)]
+#[derive(Clone, Copy)]
 pub enum NumberRead {
     Number { number: u32, next: usize },
     Refused { number: u32, place: usize },
 }
 
 // A row with its number and its sig, and the byte behind it, or the refusal.
-#[derive(Drop)]
+#[derive(Clone, Copy)]
 pub enum RowRead {
     Row { number: u32, sig: u32, next: usize },
     Refused { number: u32, place: usize },

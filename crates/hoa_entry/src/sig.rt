@@ -7,7 +7,7 @@ ghost use Rattle.hoa_entry.specs.inner.Reads.{sig_step_of, SigAt};
 use hoa_tokens::{Kind, Sign, token_at};
 
 // What a token does in a sig: more marks, the sig's marks, or a fault.
-#[derive(Drop)]
+#[derive(Clone, Copy)]
 pub enum SigTurn {
     Go(u32),
     Shut(u32),
@@ -15,7 +15,7 @@ pub enum SigTurn {
 }
 
 // The marks of a sig and the byte behind it, or the refusal.
-#[derive(Drop)]
+#[derive(Clone, Copy)]
 pub enum SigRead {
     Marks { marks: u32, next: usize },
     Refused { number: u32, place: usize },

@@ -8,7 +8,7 @@ use crate::Entry;
 use hoa_tokens::{Header, Kind, Sign, token_at};
 
 // What the first token from a place on is, its first byte and the byte behind it.
-#[derive(Drop)]
+#[derive(Clone, Copy)]
 pub struct EntryAt {
     pub entry: Entry,
     pub place: usize,

@@ -1,5 +1,7 @@
 // The acceptance formula of the Hanoi format (docs/RULES.md, "The Hanoi format"): read by one loop over its tokens, with counters and no stack.
 // Relies on the crates `hoa_turn`, `hoa_standard`, `hoa_tokens` and `table`. The grammar is in specs/, the standard formulas and the admission of a token in hoa_standard/specs/.
+#![tactic(auto)]
+
 ghost use Rattle.std.specs.Prelude.{◌≡◌};
 ghost use Rattle.hoa_standard.specs.Formulas.{word_piece, sign_piece};
 ghost use Rattle.hoa_formula.specs.Reading.{FormulaAt};
@@ -12,7 +14,7 @@ use hoa_turn::step::{Formula, Stage, Turn, step};
 use table::Acceptance;
 
 // What is found: a standard formula, one with too few atoms, or why it is refused. `next` is where the token behind the formula is read again.
-#[derive(Drop)]
+#[derive(Clone, Copy)]
 pub enum FormulaFound {
     Standard { condition: Acceptance, next: usize },
     Short { next: usize },
@@ -20,14 +22,14 @@ pub enum FormulaFound {
 }
 
 // What is found, and the eight needs: 0 unless the formula is a Rabin one.
-#[derive(Drop)]
+#[derive(Clone, Copy)]
 pub struct FormulaRead {
     pub found: FormulaFound,
     pub needs: [u32; 8],
 }
 
 // The kind of formula that is complete.
-#[derive(Drop)]
+#[derive(Clone, Copy)]
 pub enum Complete {
     Buchi,
     Rabin,

@@ -16,7 +16,7 @@ use hoa_value::{Head, Piece};
 use table::Acceptance;
 
 // Where the next item may begin, the byte behind `--BODY--`, or the refusal.
-#[derive(Drop)]
+#[derive(Clone, Copy)]
 pub(crate) enum Turn {
     Go { next: usize },
     Done { next: usize },
@@ -24,7 +24,7 @@ pub(crate) enum Turn {
 }
 
 // The header so far stands beside it.
-#[derive(Drop)]
+#[derive(Clone, Copy)]
 pub(crate) struct HeadTurn {
     pub turn: Turn,
     pub head: Head,

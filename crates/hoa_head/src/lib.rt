@@ -1,5 +1,7 @@
 // The header of a text of the Hanoi format (docs/RULES.md, "The Hanoi format"). Relies on the crates `hoa_value`, `hoa_step`, `hoa_tokens` and `table`.
 // Which tokens are admitted, and what they say, is in hoa_value/specs/; what comes back is in specs/.
+#![tactic(auto)]
+
 mod item;
 
 ghost use Rattle.std.specs.Prelude.{◌≡◌, ◌≤◌, length};
@@ -17,14 +19,14 @@ use hoa_value::hint::Passed;
 use table::Acceptance;
 
 // The byte behind `--BODY--`, or the refusal.
-#[derive(Drop)]
+#[derive(Clone, Copy)]
 pub enum HeadEnd {
     Body { next: usize },
     Refused { number: u32, place: usize },
 }
 
 // What reading the header gives; a refusal has a blank header.
-#[derive(Drop)]
+#[derive(Clone, Copy)]
 pub struct HeadRead {
     pub end: HeadEnd,
     pub head: Head,

@@ -1,5 +1,7 @@
 // Labels of the Hanoi format (docs/RULES.md, "The Hanoi format"): a label behind its `[`, read as a 64-bit set of valuations. Relies on `hoa_tokens`.
 // What a label is, which tokens are admitted and what the set means is in specs/.
+#![tactic(auto)]
+
 ghost use Rattle.std.specs.Prelude.{◌≡◌, List, ℕ, ◌≤◌};
 ghost use Rattle.hoa_tokens.specs.Stream.{token_of};
 ghost use Rattle.hoa_label.specs.Labels.{prop_set, turned, wanted_word, wanted_sign, wanted, behind_sign, behind};
@@ -10,7 +12,7 @@ ghost use Rattle.hoa_label.specs.inner.Levels.{flipped_read, FactorAt, LevelAt};
 use hoa_tokens::{Kind, Sign, Word, token_at};
 
 // What a token is where a factor is wanted: a factor with its valuations, `!`, `(`, or a fault.
-#[derive(Drop)]
+#[derive(Clone, Copy)]
 pub enum Wanted {
     Set(u64),
     Not,
@@ -19,7 +21,7 @@ pub enum Wanted {
 }
 
 // What a token is behind a factor: `&`, `|`, what shuts the level, or a fault.
-#[derive(Drop)]
+#[derive(Clone, Copy)]
 pub enum Behind {
     And,
     Or,
@@ -28,7 +30,7 @@ pub enum Behind {
 }
 
 // What reading a label gives: its set of valuations and the byte behind its `]`, or the refusal.
-#[derive(Drop)]
+#[derive(Clone, Copy)]
 pub enum LabelRead {
     Shut { set: u64, next: usize },
     Refused { number: u32, place: usize },

@@ -1,5 +1,7 @@
 // The condition's line of a text in the Hanoi format, for the crate `hoa_writer`: how many marks it uses, and its formula. Relies on the crate `table` for the number of marks
 // and on `puts` for bytes and numbers. What is written is in hoa_written/specs/Written.antt.
+#![tactic(auto)]
+
 ghost use Rattle.std.specs.Prelude.{◌≡◌, false, ◌+◌, ◌*◌, ◌^◌, ◌≤◌, ◌<◌, length};
 ghost use Rattle.table.specs.Condition.{dealt};
 ghost use Rattle.table.specs.Refusal.{wrong_condition};

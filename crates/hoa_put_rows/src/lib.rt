@@ -1,6 +1,8 @@
 // The states and their edges in a text in the Hanoi format, for the crate `hoa_writer`. The edges of a table that rows 1 to 7 pass are sorted, so each state's row begins where
 // the last one ended, and one walk finds them all. Relies on the crate `table` for the row of a state, on `marks` for sets of marks and on `puts` for bytes and numbers. What is
 // written is in hoa_written/specs/Written.antt.
+#![tactic(auto)]
+
 ghost use Rattle.std.specs.Prelude.{◌≡◌, ◌+◌, ◌*◌, ◌^◌, ◌≤◌, ◌<◌, length};
 ghost use Rattle.puts.specs.Put.{PutFew};
 ghost use Rattle.hoa_written.specs.Written.{mark_text, marks_text, sig_text, edge_text, rows_text};

@@ -1,6 +1,8 @@
 // The rows of a text of the Hanoi format (docs/RULES.md, "The Hanoi format"). Relies on the crates `hoa_entry`, `hoa_kept` and `hoa_tokens`.
 // One pass over the tokens keeps the edges in the text's order; they are handed over by states at the end, so that a refusal changes no lent cell.
 // Which tokens are admitted, and what they say, is in hoa_entry/specs/; what comes back is in specs/.
+#![tactic(auto)]
+
 mod handed;
 mod reader;
 
@@ -11,7 +13,7 @@ use crate::reader::{Ending, read_entries};
 use hoa_entry::Limits;
 
 // What reading the rows gives: how many states and edges, or the refusal.
-#[derive(Drop)]
+#[derive(Clone, Copy)]
 pub enum RowsRead {
     Kept { states: u32, edges: u32 },
     Refused { number: u32, place: usize },

@@ -15,14 +15,14 @@ use hoa_step::Given;
 use hoa_tokens::{Header, Kind, token_at};
 
 // How the rows end: the rows, or the refusal.
-#[derive(Drop)]
+#[derive(Clone, Copy)]
 pub(crate) enum Ending {
     Done { rows: RowsSoFar },
     Refused { number: u32, place: usize },
 }
 
 // What may begin: a row, an edge, the end; or the number of the fault.
-#[derive(Drop)]
+#[derive(Clone, Copy)]
 pub(crate) enum Admitted {
     Row,
     Edge,
@@ -31,7 +31,7 @@ pub(crate) enum Admitted {
 }
 
 // One row or one edge further on; or how the rows end.
-#[derive(Drop)]
+#[derive(Clone, Copy)]
 pub(crate) enum Turn {
     Go { rows: RowsSoFar, next: usize },
     Over(Ending),

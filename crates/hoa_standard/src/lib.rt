@@ -1,12 +1,14 @@
 // The standard formulas of the Hanoi format (docs/RULES.md, "The Hanoi format"), for the crate `hoa_formula`, and the state of their reader: which kinds of formula
 // the tokens so far begin, with counts of open brackets. Relies on nothing. The standard formulas and the admission of a token are in specs/.
 // Four machines run side by side (specs/Machines.antt); since the first atoms tell the kinds apart, few states are met together, and each is one case here.
+#![tactic(auto)]
+
 ghost use Rattle.std.specs.Prelude.{◌≡◌, ◌+◌, ◌<◌};
 ghost use Rattle.hoa_standard.specs.inner.Sides.{AheadWithin, opened_to, inf_to, fin_to, truth_to, closed_to, and_to, or_to, first_pair, streett_past, closed_pair, closed_inf};
 ghost use Rattle.hoa_standard.specs.inner.Sides.{is_lost_ahead, is_lost_past, bracket_room};
 
 // A token as a formula sees it: brackets, signs, the words it knows, any other word, a number, `--ABORT--`, anything else.
-#[derive(Drop)]
+#[derive(Clone, Copy)]
 pub enum Piece {
     Left,
     Right,
@@ -23,7 +25,7 @@ pub enum Piece {
 }
 
 // Where an operand is expected.
-#[derive(Drop)]
+#[derive(Clone, Copy)]
 pub enum Ahead {
     // no kind of formula begins so
     Lost,
@@ -56,7 +58,7 @@ pub enum Ahead {
 }
 
 // Behind an operand.
-#[derive(Drop)]
+#[derive(Clone, Copy)]
 pub enum Past {
     Lost,
     Truth {

@@ -1,5 +1,7 @@
 // What the readers of the Hanoi format's header and rows share: numbers that may be missing, an INT and a STRING where one is wanted
 // (docs/RULES.md, "The Hanoi format"). Relies on the crate `hoa_tokens`.
+#![tactic(auto)]
+
 ghost use Rattle.std.specs.Prelude.{◌≡◌};
 ghost use Rattle.hoa_step.specs.Wanted.{IntReads, TextReads};
 ghost use Rattle.hoa_step.specs.inner.Kinds.{int_kind, text_kind};
@@ -7,14 +9,14 @@ ghost use Rattle.hoa_step.specs.inner.Kinds.{int_kind, text_kind};
 use hoa_tokens::{Kind, token_at};
 
 // A number of the header, if it was given.
-#[derive(Drop)]
+#[derive(Clone, Copy)]
 pub enum Given {
     Not,
     Value(u32),
 }
 
 // An INT with its place and the byte behind it, or the refusal of another token.
-#[derive(Drop)]
+#[derive(Clone, Copy)]
 pub enum IntRead {
     Value {
         value: u32,
@@ -28,21 +30,21 @@ pub enum IntRead {
 }
 
 // The byte behind a STRING, or the refusal of another token.
-#[derive(Drop)]
+#[derive(Clone, Copy)]
 pub enum TextRead {
     Behind { next: usize },
     Refused { number: u32, place: usize },
 }
 
 // A token where an INT is wanted: its value, or the number of the fault.
-#[derive(Drop)]
+#[derive(Clone, Copy)]
 pub(crate) enum IntKind {
     Value(u32),
     Fault(u32),
 }
 
 // A token where a STRING is wanted, or the number of the fault.
-#[derive(Drop)]
+#[derive(Clone, Copy)]
 pub(crate) enum TextKind {
     Quoted,
     Fault(u32),

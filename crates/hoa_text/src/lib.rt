@@ -1,5 +1,7 @@
 // From a job text to a text of the Hanoi format, bytes to bytes, for every byte string (docs/RULES.md, "The Hanoi format", the writer). Reads by
 // `job_text`, writes by `hoa_writer`, prints a refusal by `answer_text`. What a text is turned into is in specs/Turned.antt.
+#![tactic(auto)]
+
 ghost use Rattle.answer_text.specs.Printed.{refused_text};
 ghost use Rattle.hoa_text.specs.Turned.{Stands, Turned};
 

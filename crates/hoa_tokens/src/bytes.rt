@@ -66,7 +66,7 @@ pub(crate) fn is_blank(byte: u8) -> bool
 }
 
 // The bytes of which runs are made.
-#[derive(Drop)]
+#[derive(Clone, Copy)]
 pub(crate) enum Class {
     Digits,
     Names,

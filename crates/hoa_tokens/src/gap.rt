@@ -5,28 +5,28 @@ ghost use Rattle.hoa_tokens.specs.inner.Reads.{stand as standing, gap_from, ahea
 use crate::bytes::is_blank;
 
 // Where the next token begins, or the outermost comment that is never closed.
-#[derive(Drop)]
+#[derive(Clone, Copy)]
 pub(crate) enum Ahead {
     Clear(usize),
     Unclosed(usize),
 }
 
 // Where a comment ends, if it does.
-#[derive(Drop)]
+#[derive(Clone, Copy)]
 pub(crate) enum Comment {
     Closed(usize),
     Endless,
 }
 
 // A place in a comment, and how many comments are open there.
-#[derive(Drop)]
+#[derive(Clone, Copy)]
 struct Spot {
     at: usize,
     depth: usize,
 }
 
 // The place behind a blank or a comment, or what is ahead.
-#[derive(Drop)]
+#[derive(Clone, Copy)]
 enum Hop {
     To(usize),
     Done(Ahead),

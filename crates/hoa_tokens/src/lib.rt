@@ -1,5 +1,7 @@
 // The tokens of the Hanoi format (docs/RULES.md, "The Hanoi format"): what stands at a place of a text. Relies on nothing.
 // What the tokens of a text are is in specs/.
+#![tactic(auto)]
+
 pub mod bytes;
 mod front;
 mod gap;
@@ -13,7 +15,7 @@ use crate::front::front;
 use crate::gap::{Ahead, skip};
 
 // A word; what the grammar asks for by name is told apart.
-#[derive(Drop)]
+#[derive(Clone, Copy)]
 pub enum Word {
     True,
     False,
@@ -24,7 +26,7 @@ pub enum Word {
 }
 
 // A header; of the names that the grammar does not know, those that begin with a capital letter are told apart.
-#[derive(Drop)]
+#[derive(Clone, Copy)]
 pub enum Header {
     Hoa,
     States,
@@ -42,7 +44,7 @@ pub enum Header {
 }
 
 // A mark of one byte.
-#[derive(Drop)]
+#[derive(Clone, Copy)]
 pub enum Sign {
     ParenLeft,
     ParenRight,
@@ -56,7 +58,7 @@ pub enum Sign {
 }
 
 // What a token is. The bytes of a string are those of the text between its quotes.
-#[derive(Drop)]
+#[derive(Clone, Copy)]
 pub enum Kind {
     Int(u32),
     Word(Word),
@@ -72,7 +74,7 @@ pub enum Kind {
 }
 
 // A token of a text: its first byte, the byte behind its last one, and what it is.
-#[derive(Drop)]
+#[derive(Clone, Copy)]
 pub struct Found {
     pub first: usize,
     pub next: usize,

@@ -6,7 +6,7 @@ ghost use Rattle.hoa_tokens.specs.inner.Reads.{Reads, Unquoted, Past, QuoteAt};
 use crate::{Found, Kind};
 
 // The closing quote's place, if there is one.
-#[derive(Drop)]
+#[derive(Clone, Copy)]
 pub(crate) enum Quote {
     At(usize),
     Open,

@@ -6,7 +6,7 @@ use crate::step::{Stage, opens_pair};
 use hoa_standard::{Ahead, Piece};
 
 // How many pairs have begun, and the number of Inf in each.
-#[derive(Drop)]
+#[derive(Clone, Copy)]
 pub struct Needs {
     pub pairs: u32,
     pub needs: [u32; 8],

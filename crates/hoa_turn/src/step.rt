@@ -20,7 +20,7 @@ const SUBSET: u32 = 41;
 const LIMIT: u32 = 42;
 
 // Where the reader stands: an operand is expected; behind an atom's word, its bracket, its number; behind an operand.
-#[derive(Drop)]
+#[derive(Clone, Copy)]
 pub enum Stage {
     Operand(Ahead),
     Named(Past),
@@ -30,7 +30,7 @@ pub enum Stage {
 }
 
 // The reader's state: open brackets, atoms that have begun, and where it stands.
-#[derive(Drop)]
+#[derive(Clone, Copy)]
 pub struct Formula {
     pub depth: usize,
     pub atoms: u32,
@@ -38,7 +38,7 @@ pub struct Formula {
 }
 
 // What the reader does at a token: go on, stop because the formula is over, or refuse.
-#[derive(Drop)]
+#[derive(Clone, Copy)]
 pub enum Turn {
     Go(Formula),
     Over,

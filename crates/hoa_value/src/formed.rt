@@ -10,7 +10,7 @@ use table::Acceptance;
 const MOST_MARKS: u32 = 32;
 
 // The number of marks, the condition and the byte behind its formula; or the refusal.
-#[derive(Drop)]
+#[derive(Clone, Copy)]
 pub enum FormedEnd {
     Formula {
         marks: u32,
@@ -24,7 +24,7 @@ pub enum FormedEnd {
 }
 
 // The needs stand beside it.
-#[derive(Drop)]
+#[derive(Clone, Copy)]
 pub struct Formed {
     pub end: FormedEnd,
     pub needs: [u32; 8],

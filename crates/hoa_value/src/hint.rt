@@ -7,7 +7,7 @@ use crate::token::{is_hint, is_text, is_word, look, misplaced};
 use hoa_step::{TextRead, read_text};
 
 // The byte behind a part of the header, or the refusal.
-#[derive(Drop)]
+#[derive(Clone, Copy)]
 pub enum Passed {
     Behind { next: usize },
     Refused { number: u32, place: usize },

@@ -14,7 +14,7 @@ use hoa_tokens::bytes::alike;
 const MOST_PROPS: u32 = 6;
 
 // Where a name stands between its quotes, and the byte behind it; or the refusal.
-#[derive(Drop)]
+#[derive(Clone, Copy)]
 pub enum NameRead {
     Name { from: usize, to: usize, next: usize },
     Refused { number: u32, place: usize },

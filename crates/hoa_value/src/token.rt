@@ -7,7 +7,7 @@ use crate::Piece;
 use hoa_tokens::{Header, Kind, Sign, token_at};
 
 // The first token from a place on: what it is, its first byte and the byte behind it.
-#[derive(Drop)]
+#[derive(Clone, Copy)]
 pub struct Spot {
     pub piece: Piece,
     pub first: usize,

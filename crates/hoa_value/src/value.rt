@@ -11,7 +11,7 @@ use hoa_step::{Given, IntRead, read_int};
 const MOST_JOB_STATES: u32 = 256;
 
 // A number and the byte behind it, or the refusal.
-#[derive(Drop)]
+#[derive(Clone, Copy)]
 pub enum Counted {
     Value { value: u32, next: usize },
     Refused { number: u32, place: usize },

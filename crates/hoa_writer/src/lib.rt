@@ -1,6 +1,8 @@
 // The writer of the Hanoi format (docs/RULES.md, "The Hanoi format"): a table and its condition as a text in a lent buffer.
 // Relies on the crate `table` for rows 1 to 7, on `hoa_put_formula` and `hoa_put_rows` for the lines and on `puts` for bytes and numbers. What is written is in
 // hoa_written/specs/Written.antt, what the writer gives for every input in hoa_written/specs/Writing.antt.
+#![tactic(auto)]
+
 ghost use Rattle.std.specs.Prelude.{◌≡◌, false, ◌≤◌};
 ghost use Rattle.table.specs.Table.{lent};
 ghost use Rattle.table.specs.Refusal.{refusal, wrong_condition};

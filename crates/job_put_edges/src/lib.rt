@@ -1,5 +1,7 @@
 // The edge lines of a job text, for the crate `job_writer`: two states and eight hex digits. Relies on `puts` for words and numbers. What is written is in specs/Edges.antt, what
 // the functions ask in specs/inner.antt.
+#![tactic(auto)]
+
 ghost use Rattle.std.specs.Prelude.{◌≡◌, ◌^◌, ◌<◌, length};
 ghost use Rattle.puts.specs.Put.{PutFew};
 ghost use Rattle.job_put_edges.specs.Edges.{hex_byte, hex_text, edge_text, edges_text};

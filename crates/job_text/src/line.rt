@@ -23,7 +23,7 @@ const MALFORMED: u32 = 22;
 const ABOVE: u32 = 23;
 
 // Whether a line is there with its key, and then where its value stands: from the key to the newline byte.
-#[derive(Drop)]
+#[derive(Clone, Copy)]
 pub(crate) struct Span {
     pub found: bool,
     pub from: usize,
@@ -31,7 +31,7 @@ pub(crate) struct Span {
 }
 
 // What is wrong with a text, and where: the row, the line and the column, both counted from 1.
-#[derive(Drop)]
+#[derive(Clone, Copy)]
 pub(crate) struct Fault {
     pub number: u32,
     pub line: u32,
@@ -39,13 +39,13 @@ pub(crate) struct Fault {
 }
 
 // What a line with a number says, and where the next one begins; or its fault.
-#[derive(Drop)]
+#[derive(Clone, Copy)]
 pub(crate) enum NumberLine {
     Value { value: u32, next: usize },
     Fault(Fault),
 }
 
-#[derive(Drop)]
+#[derive(Clone, Copy)]
 pub(crate) enum EdgeLine {
     Edge {
         from: u32,
@@ -57,28 +57,28 @@ pub(crate) enum EdgeLine {
 }
 
 // The form and where the next line begins, with that line's number; or the fault.
-#[derive(Drop)]
+#[derive(Clone, Copy)]
 pub(crate) enum FormLine {
     Form { form: Form, next: usize, line: u32 },
     Fault(Fault),
 }
 
 // The kind and where the next line begins, with that line's number; or the fault.
-#[derive(Drop)]
+#[derive(Clone, Copy)]
 pub(crate) enum KindLine {
     Kind { kind: Kind, next: usize, line: u32 },
     Fault(Fault),
 }
 
 // Where the next line begins, or this one's fault.
-#[derive(Drop)]
+#[derive(Clone, Copy)]
 pub(crate) enum Step {
     Next { next: usize },
     Fault(Fault),
 }
 
 // The needs stand beside the step: zeros where the line is at fault.
-#[derive(Drop)]
+#[derive(Clone, Copy)]
 pub(crate) struct NeedLine {
     pub step: Step,
     pub needs: [u32; 8],

@@ -22,7 +22,7 @@ const MOST_JOB_STATES: u32 = 256;
 const MOST_JOB_EDGES: u32 = 512;
 
 // What a job text says: nothing found, and the job; or the number and the place of its first fault with the column, and zeros with Büchi 0.
-#[derive(Drop)]
+#[derive(Clone, Copy)]
 pub struct Reading {
     pub finding: Finding,
     pub column: u32,
@@ -34,14 +34,14 @@ pub struct Reading {
 }
 
 // Nothing at fault, or the first fault.
-#[derive(Drop)]
+#[derive(Clone, Copy)]
 pub(crate) enum Ending {
     Sound,
     Refused(Fault),
 }
 
 // The lines before the edges, where the next one begins and its number; or the first fault, and zeros.
-#[derive(Drop)]
+#[derive(Clone, Copy)]
 pub(crate) struct Head {
     pub ending: Ending,
     pub states: u32,
@@ -55,7 +55,7 @@ pub(crate) struct Head {
 }
 
 // Where the lines after the edges begin; or the first fault.
-#[derive(Drop)]
+#[derive(Clone, Copy)]
 pub(crate) enum Edges {
     Next { next: usize },
     Refused(Fault),

@@ -1,5 +1,7 @@
 // The program job_to_hoa: reads a job text from standard input and writes its text in the Hanoi format to standard output, or the printed refusal. It only
 // reads, calls `hoa_text` and writes: what is written for a text is promised there. A read or a write that fails is told on standard error.
+#![tactic(auto)]
+
 use hoa_text::{MOST_WRITTEN, job_to_hoa};
 use libc::STDOUT_FILENO;
 use text_input::{Input, read_input};

@@ -14,14 +14,14 @@ use digits::{Digit, digit_value, hex_value};
 pub const MOST_NUMBER: u32 = 65535;
 
 // A value and the place behind the byte that ends it; or the place of the first byte that cannot go on.
-#[derive(Drop)]
+#[derive(Clone, Copy)]
 pub enum Field {
     Value { value: u32, next: usize },
     Wrong { at: usize },
 }
 
 // Digits, and the place behind them.
-#[derive(Drop)]
+#[derive(Clone, Copy)]
 pub(crate) struct Run {
     pub value: u32,
     pub next: usize,

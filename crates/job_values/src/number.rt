@@ -8,7 +8,7 @@ use crate::field::MOST_NUMBER;
 use digits::{Digit, digit_value};
 
 // A number, or that the bytes are not of its form.
-#[derive(Drop)]
+#[derive(Clone, Copy)]
 pub enum Number {
     Value(u32),
     Wrong,

@@ -14,14 +14,14 @@ const COMMA: u8 = 44;
 const NEWLINE: u8 = 10;
 
 // The form of a job text: it says which kind is meant where the kind line is left out.
-#[derive(Drop)]
+#[derive(Clone, Copy)]
 pub enum Form {
     One,
     Two,
 }
 
 // The kind of a condition.
-#[derive(Drop)]
+#[derive(Clone, Copy)]
 pub enum Kind {
     Buchi,
     Streett,
@@ -29,32 +29,32 @@ pub enum Kind {
 }
 
 // A form, or the place of the first byte that cannot go on.
-#[derive(Drop)]
+#[derive(Clone, Copy)]
 pub enum FormValue {
     Form(Form),
     Wrong { at: usize },
 }
 
-#[derive(Drop)]
+#[derive(Clone, Copy)]
 pub enum KindValue {
     Kind(Kind),
     Wrong { at: usize },
 }
 
-#[derive(Drop)]
+#[derive(Clone, Copy)]
 pub enum WordValue {
     Right,
     Wrong { at: usize },
 }
 
-#[derive(Drop)]
+#[derive(Clone, Copy)]
 pub enum EdgeValue {
     Edge { from: u32, to: u32, marks: u32 },
     Wrong { at: usize },
 }
 
 // Whether the value is of the form, and then the eight needs; else the place of the first byte that cannot go on.
-#[derive(Drop)]
+#[derive(Clone, Copy)]
 pub struct NeedList {
     pub formed: bool,
     pub wrong: usize,

@@ -1,5 +1,7 @@
 // Runs the job text reader over stored texts and prints what each says, a line each. Standard input has, for each text, its length as a decimal
 // number and a newline, and then its bytes (tools/job_vectors.py writes both files from docs/RULES.md alone).
+#![tactic(auto)]
+
 use job_text::reader::read;
 use libc::STDOUT_FILENO;
 use std::num::wrapping_add_u32;
@@ -80,7 +82,7 @@ fn wide(byte: u8) -> usize {
 }
 
 // The next text's length, or the end of the input.
-#[derive(Drop)]
+#[derive(Clone, Copy)]
 enum Next {
     Length(usize),
     End,

@@ -1,6 +1,8 @@
 // The writer of job texts (docs/RULES.md, "The job text and the printed answer", the writer): a table read as Büchi 1, which is what the translation
 // makes, as a job text in a lent buffer. Relies on the crate `table` for rows 1 to 7, on `job_put_edges` for the edge lines and on `puts` for words and numbers. What is written is in
 // specs/Written.antt, what the writer gives for every input in specs/Writing.antt; reading the text gives the table back: specs/Back.antt.
+#![tactic(auto)]
+
 ghost use Rattle.std.specs.Prelude.{◌≡◌, []};
 ghost use Rattle.table.specs.Table.{lent};
 ghost use Rattle.table.specs.Refusal.{refusal};

@@ -1,6 +1,8 @@
 // The program judge_hoa: reads a text of the Hanoi format from standard input and writes its printed answer to standard output. It only reads, calls
 // `judge_text` and writes: what is printed for a text is promised there. A read or a write that fails is told on standard error; a text that could not be read
 // gets no answer.
+#![tactic(auto)]
+
 use judge_text::{MOST_PRINTED, judge_hoa};
 use libc::STDOUT_FILENO;
 use text_input::{Input, read_input};

@@ -1,6 +1,8 @@
 // From bytes to bytes: a job text in, the printed answer out, for every byte string (docs/RULES.md, "The job text and the printed answer"). Reads by
 // `job_text`, judges by `judging`, prints by `answer_text`. What a text is answered is in specs/Replied.antt. The same for a text of the Hanoi format, read by
 // `hoa`: specs/HoaReplied.antt.
+#![tactic(auto)]
+
 ghost use Rattle.std.specs.Prelude.{◌≤◌, length};
 ghost use Rattle.answer_text.specs.Printed.{answer_text, refused_text, most_printed};
 ghost use Rattle.table.specs.Table.{lent};

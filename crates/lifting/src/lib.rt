@@ -1,5 +1,7 @@
 // Writes the translated edges, for the crate `one_mark`: the levels of a row, then what stands for a state, then the whole table. Relies on `climbing` for levels, climbs
 // and loops, and on `table` for the rows. What the three outputs hold is in climbing/specs/Translated.antt, what each function asks in specs/inner.antt.
+#![tactic(auto)]
+
 ghost use Rattle.std.specs.Prelude.{◌≡◌, [], ◌∷◌, ◌+◌, ◌*◌, ◌<◌, length};
 ghost use Rattle.table.specs.Table.{lent};
 ghost use Rattle.table.specs.Refusal.{Proper};
@@ -13,7 +15,7 @@ use marks::Marks;
 use table::row::run;
 
 // A state at a level.
-#[derive(Drop)]
+#[derive(Clone, Copy)]
 struct Rung {
     state: u32,
     level: u32,

@@ -1,5 +1,7 @@
 // Mark sets: a set of marks is one word, and mark i is bit i (docs/RULES.md, "Tables, walks and lassos").
 // Relies on nothing. What `has` means is in specs/Mark.antt; the laws, over every width, are in proofs/Laws.antt.
+#![tactic(auto)]
+
 ghost use Rattle.std.specs.Prelude.{◌≡◌, ℕ, ◌<◌, true, ◌↔◌};
 ghost use Rattle.marks.specs.Mark.{Has, union, without, Meets, Covers, first_marks, width};
 

@@ -1,5 +1,7 @@
 // The C face, as include/mukhadero.h declares it: the proved judge and the proved translation under C names, with their answers in plain numbers (`face`).
 // Each function takes any input; relies on `judging` and `one_mark` for all that it says. The Hanoi format is in `hanoi`, the job text in `job`.
+#![tactic(auto)]
+
 mod hanoi;
 mod job;
 

@@ -1,6 +1,8 @@
 // The one-mark translation (docs/RULES.md, "One-mark translation"): a table with k marks, read as Büchi k, becomes one with one mark, read as
 // Büchi 1, whose accepted lassos lie over those of the first. With k = 0 each stop state gets a marked loop; else its copies wait as it does.
 // Relies on `table` for rows 1 to 7, on `climbing` for counts and numbers and for what the translated table is (climbing/specs/), on `lifting` for the writing.
+#![tactic(auto)]
+
 ghost use Rattle.std.specs.Prelude.{◌≡◌, ◌-◌, ◌≤◌, length, replicate};
 ghost use Rattle.std.proofs.lemmas.List.Edits.{sets};
 ghost use Rattle.table.specs.Table.{lent};
@@ -15,7 +17,7 @@ use marks::Marks;
 use table::{Acceptance, Finding, MOST_EDGES, MOST_STATES};
 
 // What the translation answers: both counts and the new start, or why it refuses, with number and place.
-#[derive(Drop)]
+#[derive(Clone, Copy)]
 pub enum Translation {
     Made { states: u32, edges: u32, start: u32 },
     Refused { number: u32, place: u32 },
@@ -52,7 +54,7 @@ fn refused(number: u32) -> Translation
 }
 
 // The lengths of the three lent outputs.
-#[derive(Drop)]
+#[derive(Clone, Copy)]
 struct Lengths {
     leaves: usize,
     arrives: usize,

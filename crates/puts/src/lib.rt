@@ -1,5 +1,7 @@
 // Bytes, words and numbers into a lent buffer: what every writer of a text shares. A byte that has no room is counted and not written, so a text's
 // length is known before the first byte is changed. Relies on nothing. It serves the writers alone: its functions ask for what their callers prove.
+#![tactic(auto)]
+
 ghost use Rattle.std.specs.Prelude.{◌≡◌, [], ◌∷◌, ◌++◌, ◌+◌, ◌-◌, ◌^◌, ◌≤◌, ◌<◌, length, take, replicate};
 ghost use Rattle.puts.specs.Put.{decimal, held, Put, PutFew};
 

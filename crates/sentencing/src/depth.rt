@@ -6,7 +6,7 @@ ghost use Rattle.sentencing.specs.inner.Judged.{depth_of, lowered};
 use dividing::parts::Part;
 
 // What a judgement comes to: a part that holds an accepted lasso, or none, with the number of levels that the erasing went down.
-#[derive(Drop)]
+#[derive(Clone, Copy)]
 pub enum Judged {
     Found(Part),
     Nothing(u32),

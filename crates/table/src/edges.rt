@@ -10,7 +10,7 @@ use crate::Finding;
 
 // What a look over all edges shows: how many arrive above a state, the state that the last one leaves, the union of their marks,
 // and how many from states are below the one before.
-#[derive(Drop)]
+#[derive(Clone, Copy)]
 struct Look {
     astray: u32,
     last: u32,

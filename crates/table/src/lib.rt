@@ -1,5 +1,7 @@
 // What a table is, and rows 1 to 7 of docs/RULES.md: one exact check of a lent table, and the rows of a table.
 // Relies on the crate `marks`. The meaning of tables, walks, lassos and conditions is in specs/.
+#![tactic(auto)]
+
 mod condition;
 mod edges;
 pub mod row;
@@ -13,7 +15,7 @@ pub const MOST_STATES: u32 = 4096;
 pub const MOST_EDGES: usize = 32768;
 
 // The condition: one of three cases with its number. Rabin's eight needs stand beside it.
-#[derive(Drop)]
+#[derive(Clone, Copy)]
 pub enum Acceptance {
     // each of the marks 0..k-1
     Buchi(u32),
@@ -24,7 +26,7 @@ pub enum Acceptance {
 }
 
 // What the check of rows 1 to 7 finds: nothing, or the number and the place of the first cause.
-#[derive(Drop)]
+#[derive(Clone, Copy)]
 pub enum Finding {
     Sound,
     Refused { number: u32, place: u32 },
@@ -32,7 +34,7 @@ pub enum Finding {
 
 // What the judge says: a run with the lengths of its prefix and cycle and, for Rabin, the pair (0 for other kinds);
 // that there is none; or why it refuses, with number and place.
-#[derive(Drop)]
+#[derive(Clone, Copy)]
 pub enum Verdict {
     Run { prefix: u32, cycle: u32, pair: u32 },
     Empty,
@@ -40,7 +42,7 @@ pub enum Verdict {
 }
 
 // The judge's answer: the verdict and, for an empty Streett verdict, how deep the erasing went (0 for others).
-#[derive(Drop)]
+#[derive(Clone, Copy)]
 pub struct Answer {
     pub verdict: Verdict,
     pub depth: u32,

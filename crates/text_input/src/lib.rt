@@ -1,11 +1,13 @@
 // Standard input as a text: read until the lent buffer is full or the input ends. For the programs, which hand the text on to a function on bytes.
+#![tactic(auto)]
+
 ghost use Rattle.std.specs.Prelude.{◌≤◌, ◌-◌, ◌≡◌, length, take};
 ghost use Rattle.text_input.specs.Input.{Within};
 
 use libc::STDIN_FILENO;
 
 // What reading comes to: so many bytes, none at the end of the input; or a read that failed.
-#[derive(Drop)]
+#[derive(Clone, Copy)]
 pub enum Input {
     Bytes { count: usize },
     Failed,

@@ -1,6 +1,8 @@
 // The program translate: reads a job text of the kind buchi from standard input and writes the translated job text to standard output, or the printed
 // refusal. It only reads, calls `translate_text` and writes: what is written for a text is promised there. A read or a write that fails is told on
 // standard error.
+#![tactic(auto)]
+
 use libc::STDOUT_FILENO;
 use text_input::{Input, read_input};
 use translate_text::{MOST_WRITTEN, translate_text};

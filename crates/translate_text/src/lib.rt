@@ -1,6 +1,8 @@
 // From a job text to the translated job text, bytes to bytes, for every byte string (docs/RULES.md, "One-mark translation" and "The job text and the
 // printed answer", the writer). Reads by `job_text`, translates by `one_mark`, writes by `job_writer`, prints a refusal by `answer_text`. What a text is
 // translated into is in specs/Turned.antt.
+#![tactic(auto)]
+
 ghost use Rattle.table.specs.Table.{lent};
 ghost use Rattle.answer_text.specs.Printed.{refused_text};
 ghost use Rattle.writing.specs.Writing.{Stands};

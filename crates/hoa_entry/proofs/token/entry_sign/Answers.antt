@@ -1,0 +1,6 @@
+-- `token::entry_sign` meets its contract: each mark is told apart, and the others are one lemma. Assumes nothing.
+use Rattle.hoa_entry.proofs.Told.{other_sign}
+use Rattle.hoa_entry.proofs.token.entry_sign.Goals as goal
+
+pub returns-in_default : goal.returns-in_default
+returns-in_default c = other_sign c.args.sign c.in_default.keys4

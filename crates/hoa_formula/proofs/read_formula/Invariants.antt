@@ -1,0 +1,10 @@
+use Prim.Native.Nat.{◌-◌}
+use lib.ListN.{length}
+use Rattle.hoa_formula.proofs.Readings.{Reading}
+use Rattle.hoa_formula.proofs.read_formula.Given as goal
+
+abbrev pub invariant-loop-f : goal.invariant-loop-f
+invariant-loop-f l = Reading l.text l.at l.c l.formula l.needs l.here
+
+abbrev pub decreases-loop-f : goal.decreases-loop-f
+decreases-loop-f l = length l.text - l.here

@@ -1,0 +1,10 @@
+use Prim.Native.Nat.{◌-◌}
+use lib.ListN.{length}
+use Rattle.hoa_value.proofs.Passing.{SoFar}
+use Rattle.hoa_value.proofs.hint.pass_hints.Given as goal
+
+abbrev pub invariant-loop-spot : goal.invariant-loop-spot
+invariant-loop-spot l = SoFar l.text l.at l.ints l.texts l.next
+
+abbrev pub decreases-loop-spot : goal.decreases-loop-spot
+decreases-loop-spot l = length l.text - l.next

@@ -1,0 +1,15 @@
+-- `show` meets its contract: the text fits, so `print` gives its length and writes all of it (`shown_whole`); the other arm is never come to
+-- (`never_short`). Assumes nothing.
+use borrow.Author.Rules.{rules}
+use Rattle.judge_text.proofs.Telling.{shown_whole, never_short}
+use Rattle.judge_text.proofs.show.Goals as goal
+
+pub returns-in-Text : goal.returns-in-Text
+returns-in-Text c =
+    let print = c.print in
+    shown_whole (search rules) c.requires print.ensures c.in-Text.is
+
+pub returns-in-Refused : goal.returns-in-Refused
+returns-in-Refused c =
+    let print = c.print in
+    never_short (search rules) c.requires print.ensures c.in-Refused.is

@@ -124,8 +124,6 @@ class Names:
         raise Stuck(f"no step {'.'.join(parts)} at {place}")
 
     def start(self, parts):
-        if parts[0] == "ranges" and parts[2:3] == ["fits"]:
-            return parts[:2] + parts[3:]
         return parts
 
     def step(self, at, row, here, parts):
@@ -140,6 +138,9 @@ class Names:
                     best = new, path
             if best:
                 return [arm[0], best[0]] + parts[1 + len(best[1]):]
+            own = next((new for new, step, path in arm[2] if step == row[2][0] and not path and new.endswith("-own")), None)
+            if own and j == i:
+                return [arm[0], own] + parts[1:]
         if parts[1:2] == ["given"]:
             for variable, step in self.typed[self.index[here]]:
                 if alike(step) == alike(parts[0]):
@@ -515,6 +516,45 @@ def helper_name(self, key):
 Turn.helper_name = helper_name
 
 
+def as_record(body, fields):
+    """A body that ends in a tuple, with the clauses' names; the body as it is where it ends in none."""
+    text = body.rstrip()
+    if not text.endswith(")"):
+        return body
+    depth, k = 0, len(text)
+    while k:
+        k -= 1
+        depth += text[k] in ")}]"
+        depth -= text[k] in "({["
+        if depth == 0:
+            break
+    before = text[:k].rstrip()
+    if before and not re.search(r"(?:^|\s)in$|\.$", before):
+        return body
+    parts = tuple_parts(text[k + 1:-1])
+    while parts and len(parts) < len(fields) and parts[-1].startswith("(") and parts[-1].endswith(")") and len(tuple_parts(parts[-1][1:-1])) > 1:
+        parts = parts[:-1] + tuple_parts(parts[-1][1:-1])
+    if len(parts) != len(fields):
+        return body
+    inner = "; ".join(f"{f} = {p}" for f, p in zip(fields, parts))
+    return text[:k] + "record { " + inner + " }"
+
+
+def tuple_parts(text):
+    out, depth, now = [], 0, ""
+    for ch in text:
+        depth += ch in "({["
+        depth -= ch in ")}]"
+        if ch == "," and depth == 0:
+            out.append(now.strip())
+            now = ""
+        else:
+            now += ch
+    if now.strip():
+        out.append(now.strip())
+    return out
+
+
 def layout_invariant(turn, d, kind):
     """An invariant or a measure: its positional arguments become fields of `l`."""
     names = turn.names
@@ -650,11 +690,16 @@ def turn_function(crate, folder, it, names):
             if d.name not in blocks:
                 continue
             _, new, out = blocks[d.name]
+            old = next(o for o, n in names.needs if n == new)
+            fields = names.asked.get(old) or names.asked.get(new)
             lines = list(d.comment)
             lines.append(f"pub {new} : goal.{new}")
             lines += d.unfolds
             for args, parts in out:
-                lines.append(f"{new} {' '.join(args)} ={joined(parts, turn)}".rstrip())
+                body = joined(parts, turn)
+                if fields and len(fields) > 1:
+                    body = as_record(body, fields)
+                lines.append(f"{new} {' '.join(args)} ={body}".rstrip())
             texts.append("\n".join(lines))
         elif d.name in turn.place_fns:
             continue

@@ -7,10 +7,7 @@ use Rattle.answer_check.proofs.check_table.Goals as goal
 pub check_sound-requires : goal.check_sound-requires
 check_sound-requires c =
     let a = c.args in
-    let k = c.check in (
-      even a.states a.start a.from.now a.to.now a.marks.now a.condition a.needs a.answer.now k.result k.ensures c.in-Sound.is,
-      permitted a.states a.start a.from.now a.to.now a.marks.now a.condition a.needs a.answer.now k.result k.ensures c.in-Sound.is,
-    )
+    let k = c.check in record { even = even a.states a.start a.from.now a.to.now a.marks.now a.condition a.needs a.answer.now k.result k.ensures c.in-Sound.is; needs_value = permitted a.states a.start a.from.now a.to.now a.marks.now a.condition a.needs a.answer.now k.result k.ensures c.in-Sound.is }
 
 pub returns-in-Refused : goal.returns-in-Refused
 returns-in-Refused c =

@@ -30,4 +30,4 @@ pub returns-in-Bare : goal.returns-in-Bare
 returns-in-Bare c = rw c.in-Bare.is c.if_none-in-Bare.ensures
 
 pub returns-in_default : goal.returns-in_default
-returns-in_default c = others_complete c.args.p c.in_default.keys8
+returns-in_default c = others_complete c.args.p c.in_default.in_default-own.keys8

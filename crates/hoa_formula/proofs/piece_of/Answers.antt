@@ -12,4 +12,4 @@ pub returns-in-Sign : goal.returns-in-Sign
 returns-in-Sign c = rw c.in-Sign.is c.sign_piece.ensures
 
 pub returns-in_default : goal.returns-in_default
-returns-in_default c = others_kind c.args.k c.in_default.keys5
+returns-in_default c = others_kind c.args.k c.in_default.in_default-own.keys5

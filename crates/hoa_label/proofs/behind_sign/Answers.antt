@@ -3,4 +3,4 @@ use Rattle.hoa_label.proofs.Told.{other_sign_behind}
 use Rattle.hoa_label.proofs.behind_sign.Goals as goal
 
 pub returns-in_default : goal.returns-in_default
-returns-in_default c = other_sign_behind c.args.outermost c.args.sign c.in_default.keys5
+returns-in_default c = other_sign_behind c.args.outermost c.args.sign c.in_default.in_default-own.keys5

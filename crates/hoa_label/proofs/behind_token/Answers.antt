@@ -9,4 +9,4 @@ pub returns-in-Abort : goal.returns-in-Abort
 returns-in-Abort c = λ text p q. abort_behind _ text p q c.in-Abort.is
 
 pub returns-in_default : goal.returns-in_default
-returns-in_default c = λ text p q. other_kind_behind _ text p q c.args.kind c.in_default.keys3
+returns-in_default c = λ text p q. other_kind_behind _ text p q c.args.kind c.in_default.in_default-own.keys3

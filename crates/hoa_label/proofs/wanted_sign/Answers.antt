@@ -3,4 +3,4 @@ use Rattle.hoa_label.proofs.Told.{other_sign}
 use Rattle.hoa_label.proofs.wanted_sign.Goals as goal
 
 pub returns-in_default : goal.returns-in_default
-returns-in_default c = other_sign c.args.room c.args.sign c.in_default.keys3
+returns-in_default c = other_sign c.args.room c.args.sign c.in_default.in_default-own.keys3

@@ -8,4 +8,4 @@ unfolding full
 returns-in-True c = rw c.in-True.is
 
 pub returns-in_default : goal.returns-in_default
-returns-in_default c = other_word c.args.word c.in_default.keys3
+returns-in_default c = other_word c.args.word c.in_default.in_default-own.keys3

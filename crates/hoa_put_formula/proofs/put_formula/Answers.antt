@@ -10,19 +10,19 @@ use Rattle.hoa_put_formula.proofs.put_formula.Goals as goal
 pub put_buchi-requires : goal.put_buchi-requires
 put_buchi-requires c =
     let e : c.args.condition ≡ Buchi c.in-Buchi.k = cc in
-    (omega (arith, c.requires.at_bound), used_few (Buchi _) c.args.needs (rw e at c.requires.needs_value))
+    record { at_bound = omega (arith, c.requires.at_bound); k_bound = used_few (Buchi _) c.args.needs (rw e at c.requires.needs_value) }
 
 pub put_streett-requires : goal.put_streett-requires
 put_streett-requires c =
     let e : c.args.condition ≡ Streett c.in-Streett.p = cc in
-    (c.requires.at_bound, ltb-false 16 _ (rw e at c.requires.needs_value))
+    record { at_bound = c.requires.at_bound; p_bound = ltb-false 16 _ (rw e at c.requires.needs_value) }
 
 pub put_rabin-requires : goal.put_rabin-requires
 put_rabin-requires c =
     let p = c.in-Rabin.p in
     let e : c.args.condition ≡ Rabin p = cc in
     let permitted = rw e at c.requires.needs_value in
-    (c.requires.at_bound, (rabin_few p c.args.needs permitted, used_few (Rabin p) c.args.needs permitted))
+    record { at_bound = c.requires.at_bound; p_bound = rabin_few p c.args.needs permitted; p_bound_2 = used_few (Rabin p) c.args.needs permitted }
 
 pub returns-in-Buchi : goal.returns-in-Buchi
 returns-in-Buchi c =

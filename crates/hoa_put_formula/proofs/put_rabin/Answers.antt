@@ -17,14 +17,14 @@ pub put_rabin_pair-next-requires : goal.put_rabin_pair-next-requires
 put_rabin_pair-next-requires c =
     let a = c.args in
     let first : 0 + (1 + need a.t4 0) ≤ 32 = omega (arith, c.requires.p_bound_2, dealt_one a.t4, dealt_up a.t4 (0 + 1) a.p (omega arith)) in
-    (omega (arith, c.requires.at_bound), (omega arith, first))
+    record { at_bound = omega (arith, c.requires.at_bound); key_len_bound = omega arith; need_bound = first }
 
 pub put_more_rabin-requires : goal.put_more_rabin-requires
 put_more_rabin-requires c =
     let a = c.args in
     let first : 0 + (1 + need a.t4 0) ≤ 32 = omega (arith, c.requires.p_bound_2, dealt_one a.t4, dealt_up a.t4 (0 + 1) a.p (omega arith)) in
     let all : a.p - 1 + 1 ≡ a.p = omega arith in
-    (omega (arith, c.requires.at_bound, c.put_rabin_pair-next.ensures.few), (omega (arith, c.requires.p_bound), rw all c.requires.p_bound_2))
+    record { at_bound = omega (arith, c.requires.at_bound, c.put_rabin_pair-next.ensures.few); count_bound = omega (arith, c.requires.p_bound); count_bound_2 = rw all c.requires.p_bound_2 }
 
 pub returns : goal.returns
 unfolding bytes

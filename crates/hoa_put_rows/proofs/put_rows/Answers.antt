@@ -45,7 +45,7 @@ put_row-next-requires c =
     let within = row_ends a.from.now turn.state turn.e found.result turn.invariant.1.within found.ensures in
     let long = part_length turn.e end a.to.now (omega (arith, sound.to_length)) in
     let wide = part_length turn.e end a.marks.now (omega (arith, sound.marks_length)) in
-    (omega (arith, turn.invariant.2.few, c.requires.at_bound, c.requires.n_bound, sound.few), long ∙ sym wide)
+    record { to_bound = omega (arith, turn.invariant.2.few, c.requires.at_bound, c.requires.n_bound, sound.few); to_len = long ∙ sym wide }
 
 pub loop-state-preserved : goal.loop-state-preserved
 loop-state-preserved c =

@@ -15,4 +15,4 @@ pub returns-in-StreettPair : goal.returns-in-StreettPair
 returns-in-StreettPair c = rw c.in-StreettPair.is
 
 pub returns-in_default : goal.returns-in_default
-returns-in_default c = others_and c.args.p c.in_default.keys5
+returns-in_default c = others_and c.args.p c.in_default.in_default-own.keys5

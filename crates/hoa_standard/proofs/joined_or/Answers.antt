@@ -18,4 +18,4 @@ pub returns-in-StreettFin : goal.returns-in-StreettFin
 returns-in-StreettFin c = rw c.in-StreettFin.is
 
 pub returns-in_default : goal.returns-in_default
-returns-in_default c = others_or c.args.p c.in_default.keys5
+returns-in_default c = others_or c.args.p c.in_default.in_default-own.keys5

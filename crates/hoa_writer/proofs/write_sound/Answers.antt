@@ -25,7 +25,7 @@ pub put_text-length-requires : goal.put_text-length-requires
 put_text-length-requires c =
     let a = c.args in
     let passed = lists_passed a.n a.start a.from.now a.to.now a.marks.now a.condition a.needs c.requires (omega arith) in
-    (omega arith, (passed, permitted a.n a.start a.from.now a.to.now a.marks.now a.condition a.needs c.requires))
+    record { n_le_most_written = omega arith; passed = passed; needs_value = permitted a.n a.start a.from.now a.to.now a.marks.now a.condition a.needs c.requires }
 
 pub returns-then-out-length : goal.returns-then-out-length
 returns-then-out-length c =
@@ -41,7 +41,7 @@ pub put_text-requires : goal.put_text-requires
 put_text-requires c =
     let a = c.args in
     let passed = lists_passed a.n a.start a.from.now a.to.now a.marks.now a.condition a.needs c.requires (omega arith) in
-    (omega arith, (passed, permitted a.n a.start a.from.now a.to.now a.marks.now a.condition a.needs c.requires))
+    record { n_le_most_written = omega arith; passed = passed; needs_value = permitted a.n a.start a.from.now a.to.now a.marks.now a.condition a.needs c.requires }
 
 pub returns : goal.returns
 returns c =

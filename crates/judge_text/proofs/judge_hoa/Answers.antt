@@ -30,7 +30,7 @@ slice_bounds-answer_job-end-3 c = hoa_sets_reach refl refl refl (search rules) c
 pub answer_job-requires : goal.answer_job-requires
 answer_job-requires c =
     let read = c.read_hoa-hoa.ensures in
-    (hoa_states_few refl refl refl (search rules) read, hoa_edges_few refl refl refl (search rules) read)
+    record { states_le_most_job_states = hoa_states_few refl refl refl (search rules) read; from_len_bound = hoa_edges_few refl refl refl (search rules) read }
 
 pub returns : goal.returns
 returns c =

@@ -20,7 +20,7 @@ slice_bounds-answer_job-end-3 c = sets_reach c.read-job.ensures
 pub answer_job-requires : goal.answer_job-requires
 answer_job-requires c =
     let read = c.read-job.ensures in
-    (states_few read, edges_few read)
+    record { states_le_most_job_states = states_few read; from_len_bound = edges_few read }
 
 pub returns : goal.returns
 returns c =

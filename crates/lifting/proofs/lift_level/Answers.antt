@@ -12,13 +12,10 @@ use Rattle.lifting.proofs.lift_level.Goals as goal
 -- the edge arrives at a state, and at a level
 pub number_of-arriving-requires : goal.number_of-arriving-requires
 number_of-arriving-requires c =
-    let i = c.loop-i.i in (
-      c.requires.ladder,
-      (
+    let i = c.loop-i.i in record { ladder = c.requires.ladder; state_lt_states = (
         c.requires.row_asked.ends i c.loop-i-test.true,
         omega (arith, c.land-landing.ensures.0, landing_below c.args.shape.k (get_or c.args.marks.now i 0) c.args.rung.level),
-      ),
-    )
+      ) }
 
 pub loop-i-preserved : goal.loop-i-preserved
 loop-i-preserved c =
@@ -31,4 +28,4 @@ loop-i-preserved c =
 pub returns : goal.returns
 returns c =
     let all : c.loop-i.i ≡ length c.args.to.now = omega arith in
-    (search rules, rw all at c.loop-i.invariant.1)
+    record { value = search rules; level_written = rw all at c.loop-i.invariant.1 }

@@ -12,7 +12,7 @@ lift_level-next-requires c =
     let pre = c.requires in
     let inv = c.loop-level.invariant in
     let low : c.loop-level.level < c.args.shape.levels = omega arith in
-    (pre.0, (low, (pre.1.0, level_room _ _ _ _ _ pre.1.1 inv.3 low inv.1)))
+    record { ladder = pre.0; level_lt_levels = low; row_asked = pre.1.0; room = level_room _ _ _ _ _ pre.1.1 inv.3 low inv.1 }
 
 pub loop-level-preserved : goal.loop-level-preserved
 loop-level-preserved c =
@@ -26,4 +26,4 @@ pub returns : goal.returns
 returns c =
     let inv = c.loop-level.invariant in
     let all : c.loop-level.level ≡ c.args.shape.levels = omega arith in
-    (rw all at inv.1, rw all at inv.2)
+    record { value = rw all at inv.1; row_written = rw all at inv.2 }

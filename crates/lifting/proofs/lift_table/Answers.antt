@@ -76,7 +76,7 @@ lift_state-place-requires c =
     let inv = c.loop-state.invariant in
     let k = c.args.shape.k in
     let row = row_at_lem_3 c in
-    (c.requires.ladder, (row_asked row, row_room (source_row row k) _ _ (source_length (table c) row.proper k) c.requires.room inv.4 inv.2))
+    record { ladder = c.requires.ladder; row_asked = row_asked row; room = row_room (source_row row k) _ _ (source_length (table c) row.proper k) c.requires.room inv.4 inv.2 }
 
 pub loop-state-preserved : goal.loop-state-preserved
 loop-state-preserved c =

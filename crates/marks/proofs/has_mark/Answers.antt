@@ -12,7 +12,7 @@ use Rattle.marks.proofs.has_mark.Goals as goal
 pub returns-then-mark-ge-WIDTH : goal.returns-then-mark-ge-WIDTH
 returns-then-mark-ge-WIDTH c =
     let a = c.args in
-    (λ (h : false ≡ true). absurd (false≢true h), λ h. absurd (omega (arith, Has-fits width a.mark a.set c.ranges.set h)))
+    (λ (h : false ≡ true). absurd (false≢true h), λ h. absurd (omega (arith, Has-fits width a.mark a.set c.ranges.set.fits h)))
 
 pub returns : goal.returns
 unfolding Has

@@ -9,7 +9,7 @@ use Rattle.one_mark.proofs.fill.Goals as goal
 pub lift_table-requires : goal.lift_table-requires
 lift_table-requires c =
     let pre = c.requires in
-    (pre.ladder, (pre.proper, rw pre.count at pre.room))
+    record { ladder = pre.ladder; proper = pre.proper; room = rw pre.count at pre.room }
 
 pub returns : goal.returns
 returns c =

@@ -8,7 +8,7 @@ use Rattle.puts.proofs.count_digits.Goals as goal
 
 pub overflow_add-count : goal.overflow_add-count
 overflow_add-count c =
-    omega (arith, c.loop-rest.invariant, decimal_few c.args.n (omega (arith, c.ranges.n)))
+    omega (arith, c.loop-rest.invariant, decimal_few c.args.n (omega (arith, c.ranges.n.fits)))
 
 pub loop-rest-preserved : goal.loop-rest-preserved
 loop-rest-preserved c = omega (arith, c.loop-rest.invariant, decimal_longer c.loop-rest.rest c.loop-rest-test.true)

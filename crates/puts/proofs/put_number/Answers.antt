@@ -12,12 +12,12 @@ loop-left-init c = (digits_none _ _ _ _ c.count_digits-count.ensures, omega arit
 
 pub overflow_add-at : goal.overflow_add-at
 overflow_add-at c =
-    let few = decimal_few c.args.n (omega (arith, c.ranges.n)) in
+    let few = decimal_few c.args.n (omega (arith, c.ranges.n.fits)) in
     omega (arith, c.loop-left.invariant.1, c.count_digits-count.ensures, few, c.requires)
 
 pub put-requires : goal.put-requires
 put-requires c =
-    let few = decimal_few c.args.n (omega (arith, c.ranges.n)) in
+    let few = decimal_few c.args.n (omega (arith, c.ranges.n.fits)) in
     omega (arith, c.loop-left.invariant.1, c.count_digits-count.ensures, few, c.requires)
 
 pub loop-left-preserved : goal.loop-left-preserved
@@ -26,7 +26,7 @@ loop-left-preserved c =
 
 pub overflow_add-result : goal.overflow_add-result
 overflow_add-result c =
-    omega (arith, c.count_digits-count.ensures, decimal_few c.args.n (omega (arith, c.ranges.n)), c.requires)
+    omega (arith, c.count_digits-count.ensures, decimal_few c.args.n (omega (arith, c.ranges.n.fits)), c.requires)
 
 pub shape_of-out : goal.shape_of-out
 shape_of-out c = ap length c.loop-left.invariant.0.cells ∙ length-sets _ _ c.loop-left.invariant.0.written
@@ -35,5 +35,5 @@ pub returns : goal.returns
 returns c =
     record {
       put = digits_put c.loop-left-test.false c.count_digits-count.ensures c.loop-left.invariant.0;
-      few = omega (arith, c.count_digits-count.ensures, decimal_few c.args.n (omega (arith, c.ranges.n)));
+      few = omega (arith, c.count_digits-count.ensures, decimal_few c.args.n (omega (arith, c.ranges.n.fits)));
     }

@@ -8,9 +8,9 @@ use Rattle.text_input.proofs.read_more.Goals as goal
 pub returns-then-got-lt0 : goal.returns-then-got-lt0
 returns-then-got-lt0 c =
     let text = c.args.text.now in
-    (tt, take_put c.args.at (length text - c.args.at) text c.read-got.new.buf c.requires)
+    record { within = tt; text_unchanged = take_put c.args.at (length text - c.args.at) text c.read-got.new.buf c.requires }
 
 pub returns : goal.returns
 returns c =
     let text = c.args.text.now in
-    (search rules, take_put c.args.at (length text - c.args.at) text c.read-got.new.buf c.requires)
+    record { within = search rules; text_unchanged = take_put c.args.at (length text - c.args.at) text c.read-got.new.buf c.requires }

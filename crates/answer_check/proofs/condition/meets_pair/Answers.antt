@@ -14,7 +14,7 @@ returns-then-p-pair c =
 pub forbidden-mark-requires : goal.forbidden-mark-requires
 forbidden-mark-requires c =
     let a = c.args in
-    (omega (arith, rabin_few a.p a.t3 c.requires, c.if-p-pair.false), omega (arith, dealt_up a.t3 a.pair a.p (omega (arith, c.if-p-pair.false)), dealt_few a.p a.t3 c.requires))
+    record { pair_le_most_rabin = omega (arith, rabin_few a.p a.t3 c.requires, c.if-p-pair.false); pair_bound = omega (arith, dealt_up a.t3 a.pair a.p (omega (arith, c.if-p-pair.false)), dealt_few a.p a.t3 c.requires) }
 
 pub returns-then-has_mark : goal.returns-then-has_mark
 returns-then-has_mark c =

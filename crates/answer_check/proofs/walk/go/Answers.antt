@@ -8,7 +8,7 @@ returns-then-edge-eq-WAITING c =
     go_waits a.from.now a.to.now a.marks.now a.place a.edge c.wait.result c.if-edge-eq-WAITING.true c.wait.ensures
 
 pub take_edge-requires : goal.take_edge-requires
-take_edge-requires c = (c.requires, c.if-edge-eq-WAITING.false)
+take_edge-requires c = record { even = c.requires; fact = c.if-edge-eq-WAITING.false }
 
 pub returns : goal.returns
 returns c = c.take_edge.ensures

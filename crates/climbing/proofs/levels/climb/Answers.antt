@@ -20,7 +20,7 @@ counted : (c : goal.Then-k-level-2) →
 unfolding reached
 counted c =
     let a = c.args in
-    climb_ones (a.k - a.level) width a.marks a.level (omega arith) (lt_of_le_of_lt (shr_le a.marks a.level) c.ranges.marks)
+    climb_ones (a.k - a.level) width a.marks a.level (omega arith) (lt_of_le_of_lt (shr_le a.marks a.level) c.ranges.marks.fits)
 
 -- the level reached, by the zeros of the flipped word
 counted_2 : (c : goal.Else-k-level-2) →
@@ -29,7 +29,7 @@ counted_2 : (c : goal.Else-k-level-2) →
 unfolding reached
 counted_2 c =
     let a = c.args in
-    climb_ones (a.k - a.level) width a.marks a.level (omega arith) (lt_of_le_of_lt (shr_le a.marks a.level) c.ranges.marks)
+    climb_ones (a.k - a.level) width a.marks a.level (omega arith) (lt_of_le_of_lt (shr_le a.marks a.level) c.ranges.marks.fits)
 
 pub returns-then-k-level-2 : goal.returns-then-k-level-2
 returns-then-k-level-2 c = omega (arith, counted c)

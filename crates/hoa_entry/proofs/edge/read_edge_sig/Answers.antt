@@ -18,4 +18,4 @@ pub returns-in_default : goal.returns-in_default
 returns-in_default c =
     let a = c.args in
     let e = c.entry_at-here in
-    more_stays a.text.now a.at e.result e.ensures a.c a.before c.in_default.keys3
+    more_stays a.text.now a.at e.result e.ensures a.c a.before c.in_default.in_default-own.keys3

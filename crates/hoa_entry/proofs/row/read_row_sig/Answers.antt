@@ -12,4 +12,4 @@ pub returns : goal.returns
 returns c =
     let a = c.args in
     let e = c.entry_at-here in
-    row_sig_stays a.text.now a.at e.result e.ensures a.c c.in_default.keys2
+    row_sig_stays a.text.now a.at e.result e.ensures a.c c.in_default.in_default-own.keys2

@@ -6,4 +6,4 @@ pub returns-in-BraceRight : goal.returns-in-BraceRight
 returns-in-BraceRight c = sig_shut c.args.marks c.in-BraceRight.is
 
 pub returns-in_default : goal.returns-in_default
-returns-in_default c = sig_sign_lem c.args.marks c.args.sign c.in_default.keys2
+returns-in_default c = sig_sign_lem c.args.marks c.args.sign c.in_default.in_default-own.keys2

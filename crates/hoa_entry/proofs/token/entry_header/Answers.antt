@@ -3,4 +3,4 @@ use Rattle.hoa_entry.proofs.Told.{other_header}
 use Rattle.hoa_entry.proofs.token.entry_header.Goals as goal
 
 pub returns-in_default : goal.returns-in_default
-returns-in_default c = other_header c.args.header c.in_default.keys2
+returns-in_default c = other_header c.args.header c.in_default.in_default-own.keys2

@@ -9,4 +9,4 @@ pub returns-in-Header : goal.returns-in-Header
 returns-in-Header c = λ text p q. later_named text p q c.in-Header.is c.closing_header.ensures
 
 pub returns-in_default : goal.returns-in_default
-returns-in_default c = λ text p q. later_kind text p q c.args.kind c.in_default.keys3
+returns-in_default c = λ text p q. later_kind text p q c.args.kind c.in_default.in_default-own.keys3

@@ -3,4 +3,4 @@ use Rattle.hoa_rows.proofs.Closing.{later_header}
 use Rattle.hoa_rows.proofs.reader.closing_header.Goals as goal
 
 pub returns-in_default : goal.returns-in_default
-returns-in_default c = later_header c.args.header c.in_default.keys2
+returns-in_default c = later_header c.args.header c.in_default.in_default-own.keys2

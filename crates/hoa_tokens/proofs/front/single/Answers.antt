@@ -40,4 +40,4 @@ unfolding sign_of
 returns-in-33 c = record { says = λ text a b. rw c.in-33.is }
 
 pub returns-in_default : goal.returns-in_default
-returns-in_default c = record { says = λ text a b. rw (sign_none c.args.byte c.in_default.rest) }
+returns-in_default c = record { says = λ text a b. rw (sign_none c.args.byte c.in_default.in_default-own.rest) }

@@ -13,7 +13,7 @@ pub returns-then-c-atoms-2 : goal.returns-then-c-atoms-2
 returns-then-c-atoms-2 c = rw (c.in-Or.is, le-ltb _ _ c.if-c-atoms-2.true)
 
 pub returns-then-depth-eq0-2 : goal.returns-then-depth-eq0-2
-returns-then-depth-eq0-2 c = let a = c.args in rw (← others_after a.c a.depth a.atoms a.b a.p a.pairs c.in_default.keys4, c.if-depth-eq0-2.true)
+returns-then-depth-eq0-2 c = let a = c.args in rw (← others_after a.c a.depth a.atoms a.b a.p a.pairs c.in_default.in_default-own.keys4, c.if-depth-eq0-2.true)
 
 pub returns-else-depth-eq0 : goal.returns-else-depth-eq0
 returns-else-depth-eq0 c =
@@ -30,5 +30,5 @@ returns-else-c-atoms-2 c = rw (c.in-Or.is, lt-ltb _ _ c.if-c-atoms-2.false, ← 
 pub returns-else-depth-eq0-2 : goal.returns-else-depth-eq0-2
 returns-else-depth-eq0-2 c =
     let a = c.args in
-    rw (← others_after a.c a.depth a.atoms a.b a.p a.pairs c.in_default.keys4, c.refusal.ensures)
+    rw (← others_after a.c a.depth a.atoms a.b a.p a.pairs c.in_default.in_default-own.keys4, c.refusal.ensures)
     (ends_open a.depth _ c.if-depth-eq0-2.false)

@@ -12,4 +12,4 @@ pub returns-else-k-atoms : goal.returns-else-k-atoms
 returns-else-k-atoms c = rw c.in-Number.is (number_other _ _ _ _ c.if-k-atoms.false)
 
 pub returns-in_default : goal.returns-in_default
-returns-in_default c = let a = c.args in rw c.refusal.ensures (others_bracket a.depth a.atoms a.b a.p c.in_default.keys3)
+returns-in_default c = let a = c.args in rw c.refusal.ensures (others_bracket a.depth a.atoms a.b a.p c.in_default.in_default-own.keys3)

@@ -26,4 +26,4 @@ pub returns-in-Name : goal.returns-in-Name
 returns-in-Name c = rw c.in-Name.is
 
 pub returns-in_default : goal.returns-in_default
-returns-in_default c = let a = c.args in rw c.refusal.ensures (others_operand a.c a.depth a.atoms a.a a.p a.pairs c.in_default.keys6)
+returns-in_default c = let a = c.args in rw c.refusal.ensures (others_operand a.c a.depth a.atoms a.a a.p a.pairs c.in_default.in_default-own.keys6)

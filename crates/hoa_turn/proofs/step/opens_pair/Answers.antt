@@ -3,4 +3,4 @@ use Rattle.hoa_turn.proofs.Turns.{others_pair}
 use Rattle.hoa_turn.proofs.step.opens_pair.Goals as goal
 
 pub returns-in_default : goal.returns-in_default
-returns-in_default c = others_pair c.args.a c.in_default.keys4
+returns-in_default c = others_pair c.args.a c.in_default.in_default-own.keys4

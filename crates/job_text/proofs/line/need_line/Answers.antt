@@ -29,7 +29,7 @@ returns-then-not-span c =
     (asked_missing a.text.now a.at need= f.result f.ensures (rules a.kind a.count) unlimited a.line c.missing.result (not-true _ c.if-not-span.true) c.missing.ensures)
 
 pub read_needs-list-requires : goal.read_needs-list-requires
-read_needs-list-requires c = ((c.find_line-span.ensures.there (not-false _ c.if-not-span.false)).within, c.requires)
+read_needs-list-requires c = record { within = (c.find_line-span.ensures.there (not-false _ c.if-not-span.false)).within; count_bound = c.requires }
 
 -- a value that is not of the form
 no_value : (c : goal.Then-not-list)

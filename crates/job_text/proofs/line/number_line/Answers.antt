@@ -20,7 +20,7 @@ returns-then-not-span c =
     asked_missing a.text.now a.at a.key.now f.result f.ensures number (above a.most) a.line c.missing.result (not-true _ c.if-not-span.true) c.missing.ensures
 
 pub number_field-requires : goal.number_field-requires
-number_field-requires c = ((c.find_line-span.ensures.there (not-false _ c.if-not-span.false)).within, newline_digit)
+number_field-requires c = record { within = (c.find_line-span.ensures.there (not-false _ c.if-not-span.false)).within; stop_value = newline_digit }
 
 -- a value that is no number
 no_number : (c : goal.In-Wrong)

@@ -26,7 +26,7 @@ loop-i-init c =
     so_far_none a.text.now a.at a.end (a.count - 1) c.requires.within
 
 pub number_field-field-requires : goal.number_field-field-requires
-number_field-field-requires c = (c.loop-i.invariant.within, comma_digit)
+number_field-field-requires c = record { within = c.loop-i.invariant.within; stop_value = comma_digit }
 
 pub enum_known-field : goal.enum_known-field
 enum_known-field c = search simple
@@ -80,7 +80,7 @@ at_last_2 : (c : goal.In-Value-field) → c.loop-i.i ≡ c.args.count - 1
 at_last_2 c = omega (arith, c.loop-i.invariant.few, c.loop-i-test.false)
 
 pub number_field-field-requires-2 : goal.number_field-field-requires-2
-number_field-field-requires-2 c = (c.loop-i.invariant.within, newline_digit)
+number_field-field-requires-2 c = record { within = c.loop-i.invariant.within; stop_value = newline_digit }
 
 pub enum_known-field-in-Value-field-2 : goal.enum_known-field-in-Value-field-2
 enum_known-field-in-Value-field-2 c = search simple

@@ -9,7 +9,7 @@ use Rattle.job_values.proofs.Edges.{comma_digit, from_lost, to_within, to_lost, 
 use Rattle.job_values.proofs.value.read_edge.Goals as goal
 
 pub number_field-first-requires : goal.number_field-first-requires
-number_field-first-requires c = (c.requires, comma_digit)
+number_field-first-requires c = record { within = c.requires; stop_value = comma_digit }
 
 pub returns-in_default : goal.returns-in_default
 returns-in_default c =
@@ -60,7 +60,7 @@ first_5 c =
 pub number_field-second-requires : goal.number_field-second-requires
 number_field-second-requires c =
     let a = c.args in
-    (to_within a.text.now a.at a.end c.requires _ _ (first c), comma_digit)
+    record { within = to_within a.text.now a.at a.end c.requires _ _ (first c); stop_value = comma_digit }
 
 pub returns-in_default-second : goal.returns-in_default-second
 returns-in_default-second c =

@@ -9,7 +9,7 @@ use Rattle.job_values.proofs.value.read_needs.Goals as goal
 pub list_needs-requires : goal.list_needs-requires
 list_needs-requires c =
     let a = c.args in
-    (c.requires.within, needs_few a.kind a.count (sym c.has_needs.ensures ∙ c.if-has_needs.true) c.requires.count_bound)
+    record { within = c.requires.within; count_nonzero = needs_few a.kind a.count (sym c.has_needs.ensures ∙ c.if-has_needs.true) c.requires.count_bound }
 
 pub returns-then-has_needs : goal.returns-then-has_needs
 returns-then-has_needs c =

@@ -73,6 +73,7 @@ class Names:
         self.asked = it["asked"]
         self.pre = it["pre"]
         self.clauses = it["clauses"]
+        self.args = {a.split(".")[-1]: b.split(".")[-1] for a, b in it["args"] if a.startswith(".args")}
 
     def need(self, old):
         """The goal of an old name: its place, old and new, and its new name."""
@@ -124,6 +125,8 @@ class Names:
         raise Stuck(f"no step {'.'.join(parts)} at {place}")
 
     def start(self, parts):
+        if parts[0] in ("args", "ranges") and parts[1:2] and parts[1] in self.args:
+            return [parts[0], self.args[parts[1]]] + parts[2:]
         return parts
 
     def step(self, at, row, here, parts):
@@ -422,6 +425,7 @@ class Turn:
         words = pieces(text)
         out = []
         env = dict(env)
+        steps = {}
         i = 0
         while i < len(words):
             w = words[i]
@@ -443,6 +447,15 @@ class Turn:
                                     z += 1
                                 i = z
                                 continue
+                            # a let that names a step, or something below one
+                            parts, z = self.path_behind(words, got[2])
+                            after = self.skip(words, z)
+                            if parts and after < len(words) and words[after] == "in":
+                                steps[words[k]] = (got[0], got[1], parts)
+                            else:
+                                steps.pop(words[k], None)
+                        else:
+                            steps.pop(words[k], None)
                         # a let that hides a place
                         if words[k] in env:
                             env = dict(env)
@@ -469,6 +482,17 @@ class Turn:
                 out.append(".".join([root] + new))
                 i = k
                 continue
+            if w in steps and not before_dot and i + 1 < len(words) and words[i + 1] == ".":
+                place, root, parts = steps[w]
+                more, k = self.path_behind(words, i + 1)
+                short = self.names.path(place, parts, self.root_old)
+                long = self.names.path(place, parts + more, self.root_old)
+                if long[:len(short)] == short:
+                    out.append(".".join([w] + long[len(short):]))
+                else:
+                    out.append(".".join([root] + long))
+                i = k
+                continue
             if w in self.helpers and not before_dot:
                 d, at, parts = self.helpers[w]
                 # the helper's place argument
@@ -488,6 +512,13 @@ class Turn:
             out.append(w)
             i += 1
         return out
+
+    def path_behind(self, words, k):
+        parts = []
+        while k + 1 < len(words) and words[k] == "." and re.match(r"[A-Za-z0-9_κ]", words[k + 1]):
+            parts.append(words[k + 1])
+            k += 2
+        return parts, k
 
     def hide(self, env, name):
         env.pop(name, None)

@@ -93,12 +93,14 @@ class Names:
         above = self.places[place][1]
         return place if above is None else above
 
-    def nth(self, path):
-        """Which part of a nested pair a path of 0 and 1 names, and how long that path is; None where it names none."""
+    def nth(self, path, k):
+        """Which of k parts of a nested pair a path of 0 and 1 names, and how long that path is; None where it names none."""
         n = 0
-        while n < len(path) and path[n] == "1":
+        while n < len(path) and n < k - 1 and path[n] == "1":
             n += 1
-        return (n, n + 1) if n < len(path) and path[n] == "0" else (n, n) if n else None
+        if n == k - 1:
+            return (n, n) if k > 1 else None
+        return (n, n + 1) if n < len(path) and path[n] == "0" else None
 
     def path(self, place, parts, root):
         """The new spelling of what a place's record says at a path. A step that is not there is looked for from the goal's own place."""
@@ -106,11 +108,11 @@ class Names:
             return []
         if parts[0] == "pre":
             parts = ["requires"] + parts[1:]
-            if self.pre and self.nth(parts[1:]):
-                n, k = self.nth(parts[1:])
+            if self.pre and self.nth(parts[1:], len(self.pre["fields"])):
+                n, k = self.nth(parts[1:], len(self.pre["fields"]))
                 parts = ["requires", self.pre["fields"][n]] + parts[1 + k:]
-        if self.pre and parts[0] == "requires" and self.nth(parts[1:]) and parts[1] in ("0", "1"):
-            n, k = self.nth(parts[1:])
+        if self.pre and parts[0] == "requires" and parts[1:2] and parts[1] in ("0", "1") and self.nth(parts[1:], len(self.pre["fields"])):
+            n, k = self.nth(parts[1:], len(self.pre["fields"]))
             parts = ["requires", self.pre["fields"][n]] + parts[1 + k:]
         if parts[0] in ("args", "requires", "ranges", "lifetimes", "ghost", "type_inv"):
             return self.start(parts)
@@ -168,8 +170,8 @@ class Names:
             if params is None or n >= len(params):
                 raise Stuck(f"no parameter {n} of {row[3] or row[2][0]}")
             rest = [rest[0], params[n]] + rest[k:]
-        if self.clauses[i] and rest[:1] == ["ensures"] and self.nth(rest[1:]):
-            n, k = self.nth(rest[1:])
+        if self.clauses[i] and rest[:1] == ["ensures"] and rest[1:2] and self.nth(rest[1:], len(self.clauses[i]["fields"])):
+            n, k = self.nth(rest[1:], len(self.clauses[i]["fields"]))
             rest = ["ensures", self.clauses[i]["fields"][n]] + rest[1 + k:]
         return [row[2][1]] + rest
 
@@ -366,7 +368,8 @@ class Turn:
         d = self.place_fns[fn]
         (args, body), = clause_list(d)
         words = pieces(body)
-        got = self.parse_place([w for w in words], 0, {args[0]: (place, "c")})
+        at, env = self.skip(words, 0), {args[0]: (place, "c")}
+        got = self.atom(words, at, env) or self.call(words, at, env)
         if not got:
             raise Stuck(f"{fn} is no place")
         return got[0]
@@ -463,8 +466,9 @@ class Turn:
             if w == "λ":
                 k = i + 1
                 while k < len(words) and words[k] not in (".",):
-                    if words[k] in env and not (words[k - 1] == ":"):
-                        raise Stuck(f"λ hides the place {words[k]}")
+                    if words[k] in env:
+                        env = {v: p for v, p in env.items() if v != words[k]}
+                    steps.pop(words[k], None)
                     k += 1
             before_dot = i and words[i - 1] == "."
             got = None

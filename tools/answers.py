@@ -153,6 +153,8 @@ class Names:
         rest = parts[1:]
         if rest[:1] == ["kept"]:
             rest = ["auto"] + rest[1:]
+        if rest[:1] == ["inv"]:
+            rest = ["invariant"] + rest[1:]
         turns = dict(row[4])
         if rest and rest[0] in turns:
             rest = [turns[rest[0]]] + rest[1:]
@@ -464,12 +466,9 @@ class Turn:
                             env = dict(env)
                             self.hide(env, words[k])
             if w == "λ":
-                k = i + 1
-                while k < len(words) and words[k] not in (".",):
-                    if words[k] in env:
-                        env = {v: p for v, p in env.items() if v != words[k]}
-                    steps.pop(words[k], None)
-                    k += 1
+                for bound in binders(words, i + 1):
+                    env = {v: p for v, p in env.items() if v != bound}
+                    steps.pop(bound, None)
             before_dot = i and words[i - 1] == "."
             got = None
             if not before_dot:
@@ -526,6 +525,24 @@ class Turn:
 
     def hide(self, env, name):
         env.pop(name, None)
+
+
+def binders(words, k):
+    """The names that a λ binds, whose first word is word k."""
+    out, depth, sort = [], 0, False
+    while k < len(words) and not (words[k] == "." and depth == 0):
+        if words[k] in ("(", "{"):
+            depth += 1
+            sort = False
+        elif words[k] in (")", "}"):
+            depth -= 1
+            sort = False
+        elif words[k] == ":":
+            sort = True
+        elif not sort and re.match(r"[A-Za-z_]", words[k]):
+            out.append(words[k])
+        k += 1
+    return out
 
 
 def joined(parts, turn):
@@ -617,10 +634,7 @@ def layout_invariant(turn, d, kind):
     bound = set()
     for i, w in enumerate(words):
         if w in ("λ",):
-            k2 = i + 1
-            while k2 < len(words) and words[k2] != ".":
-                bound.add(words[k2])
-                k2 += 1
+            bound |= set(binders(words, i + 1))
         if w in ("(", "{"):
             m2 = re.match(r"[({]([^:(){}=;]+) : ", "".join(words[i:i + 40]))
             if m2:

@@ -15,7 +15,7 @@ returns-then-from-e c = (c.loop-e.e, (c.loop-e-test.true, c.if-from-e.true))
 pub loop-e-preserved : goal.loop-e-preserved
 loop-e-preserved c =
     let from = c.args.from.now in
-    λ d l q. same d c.loop-e.e (λ (w : d ≡ at-loop.loop.e). c.if-from-e.false (ap (λ (x : ℕ). get_or from x 0) (sym w) ∙ q)) (λ w. at-loop.loop.invariant d (omega arith) q)
+    λ d l q. same d c.loop-e.e (λ (w : d ≡ c.loop-e.e). c.if-from-e.false (ap (λ (x : ℕ). get_or from x 0) (sym w) ∙ q)) (λ w. c.loop-e.invariant d (omega arith) q)
 
 pub returns : goal.returns
 returns c = λ d l q. c.loop-e.invariant d (omega (arith, c.loop-e-test.false)) q

@@ -72,6 +72,7 @@ class Names:
         self.asked_at = it["asked_at"]
         self.asked = it["asked"]
         self.pre = it["pre"]
+        self.goal_place = None  # the place of the goal whose answer is turned
         self.clauses = it["clauses"]
         self.args = {a.split(".")[-1]: b.split(".")[-1] for a, b in it["args"] if a.startswith(".args")}
 
@@ -147,7 +148,7 @@ class Names:
             if own and j == i:
                 return [arm[0], own] + parts[1:]
         if parts[1:2] == ["given"]:
-            for variable, step in self.typed[self.index[here]]:
+            for variable, step in self.typed[self.index[self.goal_place or here]]:
                 if alike(step) == alike(parts[0]):
                     return ["type_inv", variable] + parts[2:]
         rest = parts[1:]
@@ -427,6 +428,7 @@ class Turn:
 
     def rewrite(self, text, env, root_place):
         self.root_old = next((p for p, n in self.names.new_place.items() if n == root_place), None)
+        self.names.goal_place = self.root_old
         words = pieces(text)
         out = []
         env = dict(env)

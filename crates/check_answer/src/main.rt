@@ -4,28 +4,27 @@
 #![tactic(auto)]
 
 use check_text::{MOST_CHECKED, check_text};
-use libc::STDOUT_FILENO;
-use text_input::{Input, read_input};
+use std::process::ExitCode;
+use text_input::{Input, fail, read_input};
 
 // One byte more than the longest job (12,288) and the longest answer text (65,536) have together: with so many, whatever follows changes nothing
 // (crates/check_text/proofs/Settled.antt).
 const MOST_READ: usize = 77825;
 
 // Checks an input and writes the result.
-fn answer(text: &[u8]) {
+fn answer(rt: &(impl Print + Eprint), text: &[u8]) -> ExitCode {
     let mut out = [0u8; MOST_CHECKED];
     let size = check_text(text, &mut out);
-    if !io::write_all(STDOUT_FILENO, &out[0..size]) {
-        os::fail(b"check_answer: the result could not be written");
+    match rt.write_all(&out[0..size]) {
+        Ok(()) => ExitCode::SUCCESS,
+        Err(reason) => fail(rt, "check_answer: the result could not be written", reason),
     }
 }
 
-fn main() {
+fn main(rt: HostRuntime) -> ExitCode {
     let mut text = [0u8; MOST_READ];
-    let input = read_input(&mut text);
-    let Input::Bytes { count } = input else {
-        os::fail(b"check_answer: the input could not be read");
-        return;
-    };
-    answer(&text[0..count]);
+    match read_input(&mut rt.stdin(), &mut text) {
+        Input::Bytes { count } => answer(&rt, &text[0..count]),
+        Input::Failed { reason } => fail(&rt, "check_answer: the input could not be read", reason),
+    }
 }

@@ -3,27 +3,26 @@
 #![tactic(auto)]
 
 use judge_text::{MOST_PRINTED, judge_text};
-use libc::STDOUT_FILENO;
-use text_input::{Input, read_input};
+use std::process::ExitCode;
+use text_input::{Input, fail, read_input};
 
 // One byte more than a text may have: with so many it is refused whatever follows, and nothing more is read.
 const MOST_READ: usize = 12289;
 
 // Judges a text and writes the answer.
-fn answer(text: &[u8]) {
+fn answer(rt: &(impl Print + Eprint), text: &[u8]) -> ExitCode {
     let mut out = [0u8; MOST_PRINTED];
     let size = judge_text(text, &mut out);
-    if !io::write_all(STDOUT_FILENO, &out[0..size]) {
-        os::fail(b"judge: the answer could not be written");
+    match rt.write_all(&out[0..size]) {
+        Ok(()) => ExitCode::SUCCESS,
+        Err(reason) => fail(rt, "judge: the answer could not be written", reason),
     }
 }
 
-fn main() {
+fn main(rt: HostRuntime) -> ExitCode {
     let mut text = [0u8; MOST_READ];
-    let input = read_input(&mut text);
-    let Input::Bytes { count } = input else {
-        os::fail(b"judge: the job could not be read");
-        return;
-    };
-    answer(&text[0..count]);
+    match read_input(&mut rt.stdin(), &mut text) {
+        Input::Bytes { count } => answer(&rt, &text[0..count]),
+        Input::Failed { reason } => fail(&rt, "judge: the job could not be read", reason),
+    }
 }

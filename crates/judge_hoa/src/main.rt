@@ -4,37 +4,36 @@
 #![tactic(auto)]
 
 use judge_text::{MOST_PRINTED, judge_hoa};
-use libc::STDOUT_FILENO;
-use text_input::{Input, read_input};
+use std::process::ExitCode;
+use text_input::{Input, fail, read_input};
 
 // One byte more than a text may have: with so many it is refused whatever follows, and nothing more is read.
 const MOST_READ: usize = 1048577;
 
 // Judges a text and writes the answer.
-fn answer(text: &[u8]) {
+fn answer(rt: &(impl Print + Eprint), text: &[u8]) -> ExitCode {
     let mut out = [0u8; MOST_PRINTED];
     let size = judge_hoa(text, &mut out);
-    if !io::write_all(STDOUT_FILENO, &out[0..size]) {
-        os::fail(b"judge_hoa: the answer could not be written");
+    match rt.write_all(&out[0..size]) {
+        Ok(()) => ExitCode::SUCCESS,
+        Err(reason) => fail(rt, "judge_hoa: the answer could not be written", reason),
     }
 }
 
 // Reads the input into the text and answers it.
-fn serve(text: &mut [u8]) {
-    let input = read_input(text);
-    let Input::Bytes { count } = input else {
-        os::fail(b"judge_hoa: the text could not be read");
-        return;
-    };
-    answer(&text[0..count]);
+fn serve(rt: &HostRuntime, text: &mut [u8]) -> ExitCode {
+    match read_input(&mut rt.stdin(), text) {
+        Input::Bytes { count } => answer(rt, &text[0..count]),
+        Input::Failed { reason } => fail(rt, "judge_hoa: the text could not be read", reason),
+    }
 }
 
 // The whole array as a slice: the prover does not look into so many cells where they come as an array.
-fn lend(text: &mut [u8; MOST_READ]) {
-    serve(text);
+fn lend(rt: &HostRuntime, text: &mut [u8; MOST_READ]) -> ExitCode {
+    serve(rt, text)
 }
 
-fn main() {
+fn main(rt: HostRuntime) -> ExitCode {
     let mut text = [0u8; MOST_READ];
-    lend(&mut text);
+    lend(&rt, &mut text)
 }

@@ -3,28 +3,27 @@
 // standard error.
 #![tactic(auto)]
 
-use libc::STDOUT_FILENO;
-use text_input::{Input, read_input};
+use std::process::ExitCode;
+use text_input::{Input, fail, read_input};
 use translate_text::{MOST_WRITTEN, translate_text};
 
 // One byte more than a text may have: with so many it is refused whatever follows, and nothing more is read.
 const MOST_READ: usize = 12289;
 
 // Translates a text and writes what it gives.
-fn answer(text: &[u8]) {
+fn answer(rt: &(impl Print + Eprint), text: &[u8]) -> ExitCode {
     let mut out = [0u8; MOST_WRITTEN];
     let size = translate_text(text, &mut out);
-    if !io::write_all(STDOUT_FILENO, &out[0..size]) {
-        os::fail(b"translate: the text could not be written");
+    match rt.write_all(&out[0..size]) {
+        Ok(()) => ExitCode::SUCCESS,
+        Err(reason) => fail(rt, "translate: the text could not be written", reason),
     }
 }
 
-fn main() {
+fn main(rt: HostRuntime) -> ExitCode {
     let mut text = [0u8; MOST_READ];
-    let input = read_input(&mut text);
-    let Input::Bytes { count } = input else {
-        os::fail(b"translate: the job could not be read");
-        return;
-    };
-    answer(&text[0..count]);
+    match read_input(&mut rt.stdin(), &mut text) {
+        Input::Bytes { count } => answer(&rt, &text[0..count]),
+        Input::Failed { reason } => fail(&rt, "translate: the job could not be read", reason),
+    }
 }

@@ -73,6 +73,7 @@ class Names:
         self.asked = it["asked"]
         self.pre = it["pre"]
         self.clauses = it["clauses"]
+        self.args = {a.split(".")[-1]: b.split(".")[-1] for a, b in it["args"] if a.startswith(".args")}
 
     def need(self, old):
         """The goal of an old name: its place, old and new, and its new name."""
@@ -92,12 +93,14 @@ class Names:
         above = self.places[place][1]
         return place if above is None else above
 
-    def nth(self, path):
-        """Which part of a nested pair a path of 0 and 1 names, and how long that path is; None where it names none."""
+    def nth(self, path, k):
+        """Which of k parts of a nested pair a path of 0 and 1 names, and how long that path is; None where it names none."""
         n = 0
-        while n < len(path) and path[n] == "1":
+        while n < len(path) and n < k - 1 and path[n] == "1":
             n += 1
-        return (n, n + 1) if n < len(path) and path[n] == "0" else (n, n) if n else None
+        if n == k - 1:
+            return (n, n) if k > 1 else None
+        return (n, n + 1) if n < len(path) and path[n] == "0" else None
 
     def path(self, place, parts, root):
         """The new spelling of what a place's record says at a path. A step that is not there is looked for from the goal's own place."""
@@ -105,11 +108,11 @@ class Names:
             return []
         if parts[0] == "pre":
             parts = ["requires"] + parts[1:]
-            if self.pre and self.nth(parts[1:]):
-                n, k = self.nth(parts[1:])
+            if self.pre and self.nth(parts[1:], len(self.pre["fields"])):
+                n, k = self.nth(parts[1:], len(self.pre["fields"]))
                 parts = ["requires", self.pre["fields"][n]] + parts[1 + k:]
-        if self.pre and parts[0] == "requires" and self.nth(parts[1:]) and parts[1] in ("0", "1"):
-            n, k = self.nth(parts[1:])
+        if self.pre and parts[0] == "requires" and parts[1:2] and parts[1] in ("0", "1") and self.nth(parts[1:], len(self.pre["fields"])):
+            n, k = self.nth(parts[1:], len(self.pre["fields"]))
             parts = ["requires", self.pre["fields"][n]] + parts[1 + k:]
         if parts[0] in ("args", "requires", "ranges", "lifetimes", "ghost", "type_inv"):
             return self.start(parts)
@@ -124,6 +127,8 @@ class Names:
         raise Stuck(f"no step {'.'.join(parts)} at {place}")
 
     def start(self, parts):
+        if parts[0] in ("args", "ranges") and parts[1:2] and parts[1] in self.args:
+            return [parts[0], self.args[parts[1]]] + parts[2:]
         return parts
 
     def step(self, at, row, here, parts):
@@ -148,6 +153,8 @@ class Names:
         rest = parts[1:]
         if rest[:1] == ["kept"]:
             rest = ["auto"] + rest[1:]
+        if rest[:1] == ["inv"]:
+            rest = ["invariant"] + rest[1:]
         turns = dict(row[4])
         if rest and rest[0] in turns:
             rest = [turns[rest[0]]] + rest[1:]
@@ -165,8 +172,8 @@ class Names:
             if params is None or n >= len(params):
                 raise Stuck(f"no parameter {n} of {row[3] or row[2][0]}")
             rest = [rest[0], params[n]] + rest[k:]
-        if self.clauses[i] and rest[:1] == ["ensures"] and self.nth(rest[1:]):
-            n, k = self.nth(rest[1:])
+        if self.clauses[i] and rest[:1] == ["ensures"] and rest[1:2] and self.nth(rest[1:], len(self.clauses[i]["fields"])):
+            n, k = self.nth(rest[1:], len(self.clauses[i]["fields"]))
             rest = ["ensures", self.clauses[i]["fields"][n]] + rest[1 + k:]
         return [row[2][1]] + rest
 
@@ -363,7 +370,8 @@ class Turn:
         d = self.place_fns[fn]
         (args, body), = clause_list(d)
         words = pieces(body)
-        got = self.parse_place([w for w in words], 0, {args[0]: (place, "c")})
+        at, env = self.skip(words, 0), {args[0]: (place, "c")}
+        got = self.atom(words, at, env) or self.call(words, at, env)
         if not got:
             raise Stuck(f"{fn} is no place")
         return got[0]
@@ -422,6 +430,7 @@ class Turn:
         words = pieces(text)
         out = []
         env = dict(env)
+        steps = {}
         i = 0
         while i < len(words):
             w = words[i]
@@ -443,16 +452,23 @@ class Turn:
                                     z += 1
                                 i = z
                                 continue
+                            # a let that names a step, or something below one
+                            parts, z = self.path_behind(words, got[2])
+                            after = self.skip(words, z)
+                            if parts and after < len(words) and words[after] == "in":
+                                steps[words[k]] = (got[0], got[1], parts)
+                            else:
+                                steps.pop(words[k], None)
+                        else:
+                            steps.pop(words[k], None)
                         # a let that hides a place
                         if words[k] in env:
                             env = dict(env)
                             self.hide(env, words[k])
             if w == "λ":
-                k = i + 1
-                while k < len(words) and words[k] not in (".",):
-                    if words[k] in env and not (words[k - 1] == ":"):
-                        raise Stuck(f"λ hides the place {words[k]}")
-                    k += 1
+                for bound in binders(words, i + 1):
+                    env = {v: p for v, p in env.items() if v != bound}
+                    steps.pop(bound, None)
             before_dot = i and words[i - 1] == "."
             got = None
             if not before_dot:
@@ -467,6 +483,17 @@ class Turn:
                     k += 2
                 new = self.names.path(place, parts, self.root_old)
                 out.append(".".join([root] + new))
+                i = k
+                continue
+            if w in steps and not before_dot and i + 1 < len(words) and words[i + 1] == ".":
+                place, root, parts = steps[w]
+                more, k = self.path_behind(words, i + 1)
+                short = self.names.path(place, parts, self.root_old)
+                long = self.names.path(place, parts + more, self.root_old)
+                if long[:len(short)] == short:
+                    out.append(".".join([w] + long[len(short):]))
+                else:
+                    out.append(".".join([root] + long))
                 i = k
                 continue
             if w in self.helpers and not before_dot:
@@ -489,8 +516,33 @@ class Turn:
             i += 1
         return out
 
+    def path_behind(self, words, k):
+        parts = []
+        while k + 1 < len(words) and words[k] == "." and re.match(r"[A-Za-z0-9_κ]", words[k + 1]):
+            parts.append(words[k + 1])
+            k += 2
+        return parts, k
+
     def hide(self, env, name):
         env.pop(name, None)
+
+
+def binders(words, k):
+    """The names that a λ binds, whose first word is word k."""
+    out, depth, sort = [], 0, False
+    while k < len(words) and not (words[k] == "." and depth == 0):
+        if words[k] in ("(", "{"):
+            depth += 1
+            sort = False
+        elif words[k] in (")", "}"):
+            depth -= 1
+            sort = False
+        elif words[k] == ":":
+            sort = True
+        elif not sort and re.match(r"[A-Za-z_]", words[k]):
+            out.append(words[k])
+        k += 1
+    return out
 
 
 def joined(parts, turn):
@@ -582,10 +634,7 @@ def layout_invariant(turn, d, kind):
     bound = set()
     for i, w in enumerate(words):
         if w in ("λ",):
-            k2 = i + 1
-            while k2 < len(words) and words[k2] != ".":
-                bound.add(words[k2])
-                k2 += 1
+            bound |= set(binders(words, i + 1))
         if w in ("(", "{"):
             m2 = re.match(r"[({]([^:(){}=;]+) : ", "".join(words[i:i + 40]))
             if m2:

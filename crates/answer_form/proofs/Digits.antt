@@ -1,7 +1,7 @@
 -- A number is read from no other bytes than its decimal digits (that it is read from these: job_values/proofs/Decimals.antt). Assumes nothing.
 use mathlib.Core.Path.{◌≡◌, refl, sym, ap, ◌∙◌}
 use mathlib.Core.Bool.{Bool, true, false, false≢true, cond}
-use mathlib.Core.List.{List, [], ◌∷◌, ◌++◌, append_nil, append_assoc}
+use mathlib.Core.List.{List, [], ◌∷◌, ◌++◌, append-nil, append_assoc}
 use mathlib.Core.Option.{Option, some, none}
 use Prim.Native.Nat.{ℕ, ◌+◌, ◌*◌, ◌/◌, ◌%◌, ◌≤◌, ◌<◌}
 use native.Mathlib.Omega.{arith}
@@ -48,7 +48,7 @@ unhindered false o a e = (refl, e)
 -- the digits after those of m, which is above 0
 decimal_on : (m : ℕ) (bs : List ℕ) (n : ℕ) → 0 < m → spelt digit 10 m bs ≡ some n → decimal n ≡ decimal m ++ bs
 unfolding spelt
-decimal_on m [] n l e = let w : m ≡ n = some_same e in rw w (sym (append_nil (decimal n)))
+decimal_on m [] n l e = let w : m ≡ n = some_same e in rw w (sym (append-nil (decimal n)))
 decimal_on m (b ∷ bs) n l e =
     let a = after (digit b) (λ k. spelt digit 10 (m * 10 + k) bs) n e in
     let d = a.first in

@@ -1,7 +1,7 @@
 -- A list of edges is read from its printed form, and from no other bytes. Assumes nothing.
 use mathlib.Core.Path.{◌≡◌, refl, sym, ap, ◌∙◌}
 use mathlib.Core.Bool.{true, false, cond}
-use mathlib.Core.List.{List, [], ◌∷◌, ◌++◌, map, append_nil}
+use mathlib.Core.List.{List, [], ◌∷◌, ◌++◌, map, append-nil}
 use mathlib.Core.Option.{some, none}
 use Prim.Native.Nat.{ℕ, zero, suc, ◌≤◌, ◌<◌}
 use native.Mathlib.Omega.{arith}
@@ -90,7 +90,7 @@ read_step bs e r =
 
 fields_list : (e : ℕ) (es : List ℕ) → fields (step_text e ++ further_text es) ≡ step_text e ∷ map step_text es
 unfolding further_text
-fields_list e [] = rw (append_nil (step_text e)) (last_over (step_text e) (step_over comma e (omega arith)))
+fields_list e [] = rw (append-nil (step_text e)) (last_over (step_text e) (step_over comma e (omega arith)))
 fields_list e (d ∷ es) = field_over (step_text e) (step_text d ++ further_text es) (step_over comma e (omega arith)) ∙ ap {B = List (List ℕ)} (λ fs. step_text e ∷ fs) (fields_list d es)
 
 -- ---- lists of edges
@@ -150,7 +150,7 @@ list_read (e ∷ es) w = rw (no_dash e es, fields_list e es) (steps_read (e ∷ 
 
 joined_steps : (e : ℕ) (es : List ℕ) → joined (map step_text (e ∷ es)) ≡ list_text (e ∷ es)
 unfolding further_text
-joined_steps e [] = sym (append_nil (step_text e))
+joined_steps e [] = sym (append-nil (step_text e))
 joined_steps e (d ∷ es) = ap (λ (l : List ℕ). step_text e ++ (comma ∷ l)) (joined_steps d es)
 
 joined_list : (fs : List (List ℕ)) (es : List ℕ) → (fs ≡ [] → ⊥) → fs ≡ map step_text es → joined fs ≡ list_text es

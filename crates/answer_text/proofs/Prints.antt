@@ -1,6 +1,6 @@
 -- The lines of an answer, one after another, and how long they are. Assumes nothing.
 use mathlib.Core.Path.{◌≡◌, refl, sym, ap, ◌∙◌}
-use mathlib.Core.List.{List, [], ◌∷◌, ◌++◌, append_nil, append_assoc}
+use mathlib.Core.List.{List, [], ◌∷◌, ◌++◌, append-nil, append_assoc}
 use Prim.Native.Nat.{ℕ, suc, ◌+◌, ◌-◌, ◌*◌, ◌^◌, ◌≤◌, ◌<◌, min}
 use native.Mathlib.Nat.{add-zero}
 use native.Mathlib.Numerals.{add-one}
@@ -38,7 +38,7 @@ step_few e l =
 
 further_append : (xs : List ℕ) (x : ℕ) → further_text (xs ++ (x ∷ [])) ≡ further_text xs ++ (comma ∷ step_text x)
 unfolding further_text
-further_append [] x = append_nil (comma ∷ step_text x)
+further_append [] x = append-nil (comma ∷ step_text x)
 further_append (y ∷ ys) x = ap (λ (t : List ℕ). (comma ∷ step_text y) ++ t) (further_append ys x) ∙ sym (append_assoc (comma ∷ step_text y) (further_text ys) (comma ∷ step_text x))
 
 pub further_none : (out : List ℕ) (at : ℕ) → Put out out at (further_text []) at

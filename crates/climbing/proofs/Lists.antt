@@ -1,6 +1,6 @@
 -- Laws of lists made of runs of cells, and of runs of cells written into a list. Assumes nothing.
 use mathlib.Core.Path.{◌≡◌, refl, sym, ap, ◌∙◌}
-use mathlib.Core.List.{List, [], ◌∷◌, ◌++◌, append_assoc, append_nil}
+use mathlib.Core.List.{List, [], ◌∷◌, ◌++◌, append_assoc, append-nil}
 use Prim.Native.Nat.{ℕ, zero, suc, ◌+◌, ◌-◌, ◌*◌, ◌≤◌, ◌<◌}
 use native.Mathlib.Nat.{add-zero, zero-add}
 use native.Mathlib.Numerals.{add-one}
@@ -40,7 +40,7 @@ cells_zero a (suc n) = ap {B = List ℕ} (λ xs. 0 ∷ xs) (cells_zero (suc a) n
 -- ---- lists one behind the other
 
 pub each_more : (f : ℕ → List ℕ) (a n : ℕ) → each f a (suc n) ≡ each f a n ++ f (a + n)
-each_more f a zero = append_nil (f a) ∙ ap f (sym (add-zero a))
+each_more f a zero = append-nil (f a) ∙ ap f (sym (add-zero a))
 each_more f a (suc n) =
     let e : suc a + n ≡ a + suc n = omega arith in
     rw append_assoc (ap (λ xs. f a ++ xs) (rw e at (each_more f (suc a) n)))
@@ -95,7 +95,7 @@ sets_more l at f n =
 pub sets_whole : (l xs : List ℕ) → length xs ≡ length l → sets l 0 xs ≡ xs
 sets_whole l xs e =
     let all : 0 + length xs ≡ length l = omega arith in
-    sets-eq xs l 0 (omega arith) ∙ rw (all, drop-length l) (append_nil xs)
+    sets-eq xs l 0 (omega arith) ∙ rw (all, drop-length l) (append-nil xs)
 
 pub no_cells : (xs : List ℕ) → length xs ≡ 0 → xs ≡ []
 no_cells [] e = refl

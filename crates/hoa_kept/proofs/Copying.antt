@@ -1,6 +1,6 @@
 -- The kept edges by states: what the tables hold is what `sorted` says. Assumes nothing.
 use mathlib.Core.Path.{◌≡◌, refl, sym, ap, ◌∙◌}
-use mathlib.Core.List.{List, [], ◌∷◌, ◌++◌, map, append_assoc, append_nil, map-append}
+use mathlib.Core.List.{List, [], ◌∷◌, ◌++◌, map, append_assoc, append-nil, map-append}
 use Prim.Native.Nat.{ℕ, zero, suc, ◌+◌, ◌-◌, ◌≤◌, ◌<◌}
 use native.Mathlib.Omega.{arith}
 use native.Mathlib.Numerals.{add-one}
@@ -27,7 +27,7 @@ FillAt first value cells₀ cells i = take i cells ≡ take first cells₀ ++ re
 pub fill_none : (first value : ℕ) (cells : List ℕ) → FillAt first value cells cells first
 fill_none first value cells =
     let z : first - first ≡ 0 = omega arith in
-    rw (z, append_nil)
+    rw (z, append-nil)
 
 pub fill_more : (first value : ℕ) (cells₀ cells : List ℕ) (i : ℕ) → first ≤ i → i < length cells → FillAt first value cells₀ cells i
     → FillAt first value cells₀ (set cells i value) (i + 1)
@@ -42,7 +42,7 @@ CopyAt at first source cells₀ cells i k = take k cells ≡ take at cells₀ ++
 pub copy_none : (at first : ℕ) (source cells : List ℕ) → CopyAt at first source cells cells first at
 copy_none at first source cells =
     let z : first - first ≡ 0 = omega arith in
-    rw (z, append_nil)
+    rw (z, append-nil)
 
 between_more : (first i : ℕ) (xs : List ℕ) → first ≤ i → i < length xs → between first (i + 1) xs ≡ between first i xs ++ (get_or xs i 0 ∷ [])
 between_more first i xs f l =

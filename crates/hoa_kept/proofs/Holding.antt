@@ -1,7 +1,7 @@
 -- What a row and an edge change keeps the rows held. Assumes nothing.
 use mathlib.Core.Path.{◌≡◌, refl, sym, ap, ◌∙◌}
 use mathlib.Core.Bool.{true, false≢true}
-use mathlib.Core.List.{List, [], ◌∷◌, ◌++◌, append_nil}
+use mathlib.Core.List.{List, [], ◌∷◌, ◌++◌, append-nil}
 use Prim.Native.Nat.{ℕ, zero, suc, ◌+◌, ◌-◌, ◌≤◌, ◌<◌, max}
 use native.Mathlib.Omega.{arith}
 use borrow.Author.Tests.{lt-ltb, eq-eqb, ne_eqb, eqb-true, ltb-true}
@@ -156,7 +156,7 @@ module _ (b : Rows) (s : RowsSoFar) (tos sets firsts ends : List ℕ) (h : Holds
       leaving_append i es (e ∷ []) ∙ ap (λ (xs : List Edge). leaving i es ++ xs) (rw (eq-eqb (last_row b.seen) i (sym h.row)))
       in
       let others : (q : ℕ) → (q ≡ i → ⊥) → leaving q (es ++ (e ∷ [])) ≡ leaving q es =
-      λ q n. leaving_append q es (e ∷ []) ∙ rw (ne_eqb (last_row b.seen) q (λ t. n (sym t ∙ sym h.row)), append_nil)
+      λ q n. leaving_append q es (e ∷ []) ∙ rw (ne_eqb (last_row b.seen) q (λ t. n (sym t ∙ sym h.row)), append-nil)
       in
       let marked : ltb 0 (get_or firsts i 0) ≡ true = sym (h.listed.marked i l) ∙ rw h.row there.0 in
       record {
@@ -192,7 +192,7 @@ module _ (b : Rows) (s : RowsSoFar) (tos sets firsts ends : List ℕ) (h : Holds
   -- an edge that no valuation satisfies
   dropped_edge : (to m : ℕ) → Holds (with_edge zero to m b) (rows_with s zero to) tos sets firsts ends
   dropped_edge to m =
-      rw (append_nil b.edges)
+      rw (append-nil b.edges)
       (record {
         count = h.count;
         row = h.row;

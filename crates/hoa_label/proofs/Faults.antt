@@ -1,7 +1,7 @@
 -- Which token is faulty, and with which number. Tokens that are admitted begin a label that fits (`admitted`: no fault is late); a token that is refused is faulty
 -- with its number (`faulty_token`); no token is faulty with two numbers (`one_fault`), so a token is refused exactly if it is faulty (`fault_exactly`). Assumes nothing.
 use mathlib.Core.Bool.{Bool, true, false, cond, false≢true}
-use mathlib.Core.List.{List, [], ◌∷◌, ◌++◌, append_assoc, append_nil}
+use mathlib.Core.List.{List, [], ◌∷◌, ◌++◌, append_assoc, append-nil}
 use mathlib.Core.Logic.{◌↔◌, inl, inr, ⊎_elim}
 use mathlib.Core.Path.{◌≡◌, refl, sym, ap, subst, ◌∙◌}
 use Prim.Native.Nat.{ℕ, ◌≤◌}
@@ -136,7 +136,7 @@ admitted levels a ts (Has o k fs) e =
 -- so do tokens that shut one
 pub shut_begins : (levels a x : ℕ) (ts : List Token) → walk_within levels a label_begin ts ≡ closed x [] → Begins (Within levels a) ts
 shut_begins levels a x ts e =
-    let w = sound levels a x ts [] e in record { label = w.label; kind = w.within; more = []; text = sym w.text ∙ sym (append_nil ts) }
+    let w = sound levels a x ts [] e in record { label = w.label; kind = w.within; more = []; text = sym w.text ∙ sym (append-nil ts) }
 
 -- ---- why a token is refused
 

@@ -1,7 +1,7 @@
 -- The lines of a state are those of the run of edges where its row stands. Assumes nothing.
 use mathlib.Core.Path.{◌≡◌, refl, sym, ap, ◌∙◌}
 use mathlib.Core.Bool.{Bool, cond}
-use mathlib.Core.List.{List, [], append_nil}
+use mathlib.Core.List.{List, [], append-nil}
 use Prim.Native.Nat.{ℕ, zero, suc, ◌+◌, ◌-◌, ◌*◌, ◌≤◌, ◌<◌}
 use native.Mathlib.Nat.{add-zero, add-suc}
 use native.Mathlib.Omega.{arith}
@@ -33,7 +33,7 @@ joined_behind f g a (suc k) e h = ap (joined f) (add-suc a k) ∙ rw (joined_beh
 joined_before : (f : ℕ → List ℕ) (b k : ℕ) → ((i : ℕ) → i < k → f (b + i) ≡ []) → joined f (b + k) ≡ joined f b
 unfolding joined
 joined_before f b zero h = ap (joined f) (add-zero b)
-joined_before f b (suc k) h = ap (joined f) (add-suc b k) ∙ rw (h k (omega arith), append_nil) (joined_before f b k (λ i l. h i (omega arith)))
+joined_before f b (suc k) h = ap (joined f) (add-suc b k) ∙ rw (h k (omega arith), append-nil) (joined_before f b k (λ i l. h i (omega arith)))
 
 -- ---- the row of a state
 

@@ -1,6 +1,6 @@
 -- What the tree of a written text says: row by row the edges of the table, each with its own marks. Assumes nothing.
 use mathlib.Core.Bool.{Bool, true, false, cond}
-use mathlib.Core.List.{List, [], ◌∷◌, ◌++◌, append_nil, append_assoc}
+use mathlib.Core.List.{List, [], ◌∷◌, ◌++◌, append-nil, append_assoc}
 use mathlib.Core.Option.{some, none}
 use mathlib.Core.Path.{◌≡◌, refl, sym, ap, subst, ◌∙◌}
 use Prim.Native.Nat.{ℕ, zero, suc, ◌/◌, ◌%◌, ◌^◌, ◌≤◌, ◌<◌}
@@ -128,7 +128,7 @@ module _ (n c : ℕ) (from to marks : List ℕ) (under : (e : ℕ) → e < lengt
   all_say zero l = no_rows
   all_say (suc k) l =
       rows_say_lem (all_say k (omega arith))
-      (subst (λ (es : List Edge). RowsSay n 0 c (row_of from to marks k ∷ []) es) (append_nil (leaving_to (edge_of from to marks) from k (length from)))
+      (subst (λ (es : List Edge). RowsSay n 0 c (row_of from to marks k ∷ []) es) (append-nil (leaving_to (edge_of from to marks) from k (length from)))
       (more_rows (row_says k (omega arith)) no_rows))
 
 -- ---- the rows' numbers

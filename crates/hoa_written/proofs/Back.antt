@@ -1,7 +1,7 @@
 -- What reading back rests on: the marks of an edge, put together again, are its set, and the edges state by state are the edges of the table. Assumes nothing.
 use mathlib.Core.Path.{◌≡◌, refl, sym, ap, ◌∙◌}
 use mathlib.Core.Bool.{cond}
-use mathlib.Core.List.{List, [], ◌∷◌, ◌++◌, append_nil, append_assoc}
+use mathlib.Core.List.{List, [], ◌∷◌, ◌++◌, append-nil, append_assoc}
 use mathlib.Core.Logic.{⊎_elim, inl, inr}
 use Prim.Native.Nat.{ℕ, zero, suc, ◌+◌, ◌-◌, ◌/◌, ◌%◌, ◌^◌, ◌≤◌, ◌<◌}
 use native.Mathlib.Nat.{add-zero, add-suc}
@@ -90,7 +90,7 @@ module _ {A : Type 0} (edge : ℕ → A) where
 
     -- another does not
     stays : (k : ℕ) → (get_or from k 0 ≡ s → ⊥) → leaving_to from s (suc k) ≡ leaving_to from s k
-    stays k e = rw (ne_eqb (get_or from k 0) s e) (append_nil (leaving_to from s k))
+    stays k e = rw (ne_eqb (get_or from k 0) s e) (append-nil (leaving_to from s k))
 
     module _ (a b : ℕ) (R : Row from s a b) where
       -- none before the row
@@ -100,7 +100,7 @@ module _ {A : Type 0} (edge : ℕ → A) where
 
       -- each inside the row
       all_inside : (j : ℕ) → a + j ≤ b → up_to a ++ leaving_to from s (a + j) ≡ up_to (a + j)
-      all_inside zero l = rw (add-zero a, none_before a (omega arith)) (append_nil (up_to a))
+      all_inside zero l = rw (add-zero a, none_before a (omega arith)) (append-nil (up_to a))
       all_inside (suc j) l =
           let here = leaves (a + j) (R.inside (a + j) (omega arith) (omega arith)) in
           rw (add-suc a j)

@@ -1,7 +1,7 @@
 -- The tokens of what is written: piece by piece as it is written, the text spells `written_tokens`. Assumes nothing.
 use mathlib.Core.Path.{◌≡◌, refl, sym, ap, ◌∙◌}
 use mathlib.Core.Bool.{Bool, true, false, cond}
-use mathlib.Core.List.{List, [], ◌∷◌, ◌++◌, append_nil}
+use mathlib.Core.List.{List, [], ◌∷◌, ◌++◌, append-nil}
 use Prim.Native.Nat.{ℕ, zero, suc, ◌+◌, ◌*◌, ◌/◌, ◌%◌, ◌^◌, ◌≤◌, ◌<◌}
 use native.Mathlib.Nat.{add-zero, zero-add, pow-suc, mul_assoc, div-add-mod, mul-mod_right, mul-div_right}
 use native.Mathlib.Omega.{arith}
@@ -151,7 +151,7 @@ marks_spell set (suc k) l =
     (ap (λ (m : List ℕ). joined (mark_text set) k ++ m) (sym (mark_further set k h z))) (λ ts. rw there)))
     (λ h.
     let absent = ne_eqb (set / 2 ^ k % 2) 1 h in
-    spells_same (marks_spell set k (omega arith)) (sym (rw (mark_absent set k h) (append_nil (joined (mark_text set) k)))) (λ ts. rw absent))
+    spells_same (marks_spell set k (omega arith)) (sym (rw (mark_absent set k h) (append-nil (joined (mark_text set) k)))) (λ ts. rw absent))
   where
     further : (i : ℕ) → Spells true (decimal i) (λ ts. int i ∷ ts) → Spells true (32 ∷ decimal i) (λ ts. int i ∷ ts)
     further i s = spells_both spells_space s
@@ -230,7 +230,7 @@ written_tokens_lem n start from to marks c needs fit l =
     spells_both (head_spells n start (omega arith) (omega (arith, table.start_below)))
     (spells_both (acceptance_spells c needs fit.condition)
     (spells_both (spells_line spells_body (λ bs. tt)) (spells_both (rows_spell from to marks small n (omega arith)) (spells_line spells_end (λ bs. tt))))) in
-    whole.spells text 0 [] (sym (append_nil text)) tt
+    whole.spells text 0 [] (sym (append-nil text)) tt
     ∙ rw (zero-add (length text), at_end text)
   where
     small : (e : ℕ) → get_or to e 0 < 1000

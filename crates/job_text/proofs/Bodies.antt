@@ -1,6 +1,6 @@
 -- The edge lines, the end line and what follows it. Assumes nothing.
 use mathlib.Core.Path.{◌≡◌, refl, sym, ap, subst, ◌∙◌}
-use mathlib.Core.List.{List, [], ◌∷◌, ◌++◌, map, append_assoc, append_nil, map-append}
+use mathlib.Core.List.{List, [], ◌∷◌, ◌++◌, map, append_assoc, append-nil, map-append}
 use Prim.Native.Nat.{ℕ, suc, ◌+◌, ◌-◌, ◌≤◌, ◌<◌, zero-le}
 use native.Mathlib.Omega.{arith}
 use lib.Dec.{eqb}
@@ -119,7 +119,7 @@ module _ (text : List ℕ) (at first count : ℕ) (from to marks : List ℕ) (he
   pub edges_done : i ≡ count → EdgesTold text at first count here from to marks
   edges_done h =
       let k : count - i ≡ 0 = omega arith in
-      record { given = s.given; many = s.many ∙ h; read = rw (s.rest, k, append_nil, h); held = s.held }
+      record { given = s.given; many = s.many ∙ h; read = rw (s.rest, k, append-nil, h); held = s.held }
 
 -- ---- what the edge line's reader says of it
 

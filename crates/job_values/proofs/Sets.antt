@@ -1,6 +1,6 @@
 -- Sets of byte strings of which none begins another: what begins one of them, and where bytes stop to. Assumes nothing.
 use mathlib.Core.Path.{◌≡◌, refl, sym, ap, subst, ◌∙◌}
-use mathlib.Core.List.{List, [], ◌∷◌, ◌++◌, append_assoc, append_nil}
+use mathlib.Core.List.{List, [], ◌∷◌, ◌++◌, append_assoc, append-nil}
 use Prim.Native.Nat.{ℕ, suc, ◌+◌, ◌≤◌, ◌<◌}
 use native.Mathlib.Omega.{arith}
 use lib.ListN.{length, take, drop, length-append, take-append-drop}
@@ -39,14 +39,14 @@ pub same_cut : (x p x' q : List ℕ) → x ++ p ≡ x' ++ q → length x ≡ len
 same_cut x p x' q e n =
     let g = longer x p x' q e (omega arith) in
     let z : g.more ≡ [] = empty g.more (omega (arith, length-append x g.more, ap length g.is, n)) in
-    (sym (g.is ∙ ap (λ (y : List ℕ). x ++ y) z ∙ append_nil x), g.rest ∙ ap (λ (y : List ℕ). y ++ q) z)
+    (sym (g.is ∙ ap (λ (y : List ℕ). x ++ y) z ∙ append-nil x), g.rest ∙ ap (λ (y : List ℕ). y ++ q) z)
 
 module _ (R : List ℕ → Type 0) (apart : Apart R) where
   same_shorter : (x p x' q : List ℕ) → R x → R x' → x ++ p ≡ x' ++ q → length x ≤ length x' → (x ≡ x') × (p ≡ q)
   same_shorter x p x' q r r' e l =
       let g = longer x p x' q e l in
       let z : g.more ≡ [] = apart x g.more r (subst R g.is r') in
-      (sym (g.is ∙ ap (λ (y : List ℕ). x ++ y) z ∙ append_nil x), g.rest ∙ ap (λ (y : List ℕ). y ++ q) z)
+      (sym (g.is ∙ ap (λ (y : List ℕ). x ++ y) z ∙ append-nil x), g.rest ∙ ap (λ (y : List ℕ). y ++ q) z)
 
   -- one of R at the front of a list is the only one
   pub same_front : (x p x' q : List ℕ) → R x → R x' → x ++ p ≡ x' ++ q → (x ≡ x') × (p ≡ q)
@@ -92,7 +92,7 @@ module _ (R : List ℕ → Type 0) (l : List ℕ) (k : ℕ) (s : Stuck R l k) wh
           let f : take k l ++ b.rest ≡ x ++ (g.more ++ b.rest) = ap (λ (y : List ℕ). y ++ b.rest) g.is ∙ append_assoc x g.more b.rest in
           let z : g.more ++ b.rest ≡ [] = apart x (g.more ++ b.rest) r (subst R f b.whole) in
           let m : g.more ≡ [] = nothing g.more b.rest z in
-          s.short (subst R (sym (g.is ∙ ap (λ (y : List ℕ). x ++ y) m ∙ append_nil x)) r)
+          s.short (subst R (sym (g.is ∙ ap (λ (y : List ℕ). x ++ y) m ∙ append-nil x)) r)
         where
           nothing : (p q : List ℕ) → p ++ q ≡ [] → p ≡ []
           nothing [] q e = refl

@@ -1,7 +1,7 @@
 -- A row handed on as parts of the tables, or with k = 0 the loop of a stop state, gives the row's cells of the definition, and rows are written one
 -- behind the other. Assumes nothing.
 use mathlib.Core.Path.{◌≡◌, refl, sym, ap, ◌∙◌}
-use mathlib.Core.List.{List, [], ◌∷◌, append_nil}
+use mathlib.Core.List.{List, [], ◌∷◌, append-nil}
 use Prim.Native.Nat.{ℕ, zero, suc, ◌+◌, ◌-◌, ◌*◌, ◌≤◌, ◌<◌}
 use native.Mathlib.Nat.{zero-add}
 use native.Mathlib.Numerals.{add-one}
@@ -28,7 +28,7 @@ use Rattle.lifting.proofs.Wrote.{Kept, wrote_run}
 
 -- where edges stand, or k is not 0, nothing is added
 pub no_loop : (k : ℕ) (to : List ℕ) (x : ℕ) (xs : List ℕ) → 1 - (k + length to) ≡ 0 → or_loop k to x xs ≡ xs
-no_loop k to x xs none = rw none (append_nil xs)
+no_loop k to x xs none = rw none (append-nil xs)
 
 -- with k = 0 a row without edges is that of a loop
 one_loop : (to xs : List ℕ) (x : ℕ) → length to ≡ 0 → length xs ≡ 0 → or_loop 0 to x xs ≡ x ∷ []

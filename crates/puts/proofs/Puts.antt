@@ -1,6 +1,6 @@
 -- Writing one text after another, and how many digits a number has. Assumes nothing.
 use mathlib.Core.Path.{◌≡◌, refl, sym, ap, ◌∙◌}
-use mathlib.Core.List.{List, [], ◌∷◌, ◌++◌, append_nil, append_assoc}
+use mathlib.Core.List.{List, [], ◌∷◌, ◌++◌, append-nil, append_assoc}
 use Prim.Native.Nat.{ℕ, zero, suc, ◌+◌, ◌-◌, ◌/◌, ◌%◌, ◌^◌, ◌≤◌, ◌<◌}
 use native.Mathlib.Nat.{pow-suc, add-zero}
 use native.Mathlib.Numerals.{add-one}
@@ -73,7 +73,7 @@ clear_more out from i l h =
     ∙ rw (q, ← replicate-append-replicate {A = ℕ} (i - from) 1 0, append_assoc, append_assoc, add-one))
 
 pub clear_all : (out : List ℕ) (from i : ℕ) → i ≡ length out → cleared out from i ≡ take from out ++ replicate (length out - from) 0
-clear_all out from i e = rw (e, drop-length out, append_nil)
+clear_all out from i e = rw (e, drop-length out, append-nil)
 
 -- ---- digits
 
@@ -151,7 +151,7 @@ pub record Digits (out : List ℕ) (at n left rest : ℕ) (out' : List ℕ) : Ty
 
 pub digits_none : (out : List ℕ) (at n count : ℕ) → count ≡ length (decimal n) → Digits out at n count n out
 digits_none out at n count e =
-    record { written = []; joins = digits_all n n ∙ ap (λ (k : ℕ). last_digits k n) (sym e) ∙ sym (append_nil (last_digits count n)); cells = refl }
+    record { written = []; joins = digits_all n n ∙ ap (λ (k : ℕ). last_digits k n) (sym e) ∙ sym (append-nil (last_digits count n)); cells = refl }
 
 -- a store before others
 sets_before : (l : List ℕ) (i j b : ℕ) (vs : List ℕ) → i < j → set (sets l j vs) i b ≡ sets (set l i b) j vs

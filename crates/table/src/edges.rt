@@ -53,10 +53,8 @@ fn look_over(top: u32, from: &[u32], to: &[u32], marks: &[u32]) -> Look
 
 // Whether a look over all edges shows that none is faulty.
 fn all_sound(n: u32, from: &[u32], to: &[u32], marks: &[u32], used: u32) -> bool
-    ghost t: { Table }
-    requires marks_value { lent n 0 from.now to.now marks.now ≡ t }
-    requires even { Even t.from t.to t.marks }
-    ensures { result ≡ true → edge_refusal t used 0 t.edges ≡ Finding.Sound }
+    requires { let t = lent n 0 from.now to.now marks.now in Even t.from t.to t.marks }
+    ensures { let t = lent n 0 from.now to.now marks.now in result ≡ true → edge_refusal t used 0 t.edges ≡ Finding.Sound }
 {
     if n == 0 {
         return false;
@@ -87,10 +85,8 @@ fn refused_at(number: u32, e: usize) -> Finding
 
 // The first faulty edge decides, and 5, 6, 7 in that order within it.
 fn first_fault(n: u32, from: &[u32], to: &[u32], marks: &[u32], used: u32) -> Finding
-    ghost t: { Table }
-    requires marks_value { lent n 0 from.now to.now marks.now ≡ t }
-    requires even { Even t.from t.to t.marks }
-    ensures { result ≡ edge_refusal t used 0 t.edges }
+    requires { let t = lent n 0 from.now to.now marks.now in Even t.from t.to t.marks }
+    ensures { let t = lent n 0 from.now to.now marks.now in result ≡ edge_refusal t used 0 t.edges }
 {
     let allowed = marks::first_marks(used);
     let mut before: u32 = 0;
@@ -117,10 +113,8 @@ fn first_fault(n: u32, from: &[u32], to: &[u32], marks: &[u32], used: u32) -> Fi
 
 // Rows 5 to 7.
 pub(crate) fn check_edges(n: u32, from: &[u32], to: &[u32], marks: &[u32], used: u32) -> Finding
-    ghost t: { Table }
-    requires marks_value { lent n 0 from.now to.now marks.now ≡ t }
-    requires even { Even t.from t.to t.marks }
-    ensures { result ≡ edge_refusal t used 0 t.edges }
+    requires { let t = lent n 0 from.now to.now marks.now in Even t.from t.to t.marks }
+    ensures { let t = lent n 0 from.now to.now marks.now in result ≡ edge_refusal t used 0 t.edges }
 {
     if all_sound(n, from, to, marks, used) {
         return Finding::Sound;

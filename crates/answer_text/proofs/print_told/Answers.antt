@@ -7,11 +7,11 @@ pub returns-then-out-length : goal.returns-then-out-length
 returns-then-out-length c =
     let out = c.args.out.now in
     let p = c.put_answer-length in
-    printed_short _ out p.new.0 p.result p.auto.0 p.ensures.next c.if-out-length.true
+    printed_short _ out p.new.out p.result p.auto.out p.ensures.next c.if-out-length.true
 
 pub returns : goal.returns
 returns c =
     let out = c.args.out.now in
     let p = c.put_answer-length in
-    printed_whole _ out p.new.0 c.put_answer.new.out _ p.result p.auto.0 p.ensures.next c.if-out-length.false
+    printed_whole _ out p.new.out c.put_answer.new.out _ p.result p.auto.out p.ensures.next c.if-out-length.false
     c.put_answer.ensures.cells c.clear.ensures

@@ -22,7 +22,7 @@ loop-i-preserved c =
     let p = c.put-digits in
     let n = c.put_step-next in (
       omega arith,
-      n.auto.0 ∙ p.auto.0 ∙ l.invariant.1,
+      n.auto.out ∙ p.auto.out ∙ l.invariant.1,
       further_more c.args.cells.now l.i (omega arith) l.invariant.2 (put_both p.ensures n.ensures.put),
       omega (arith, n.ensures.few, p.ensures.next, l.invariant.3),
     )

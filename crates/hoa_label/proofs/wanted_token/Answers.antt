@@ -1,4 +1,5 @@
 -- `hoa_label::wanted_token` meets its contract: each kind is told apart, and the others are one lemma. Assumes nothing.
+use borrow.Enum.Refused.{opened}
 use Rattle.hoa_label.proofs.Told.{told_prop, told_above, told_word, told_sign, told_alias, told_abort, other_kind}
 use Rattle.hoa_label.proofs.wanted_token.Goals as goal
 
@@ -21,4 +22,4 @@ pub returns-in-Abort : goal.returns-in-Abort
 returns-in-Abort c = λ text p q. told_abort _ _ text p q c.in-Abort.is
 
 pub returns-in_default : goal.returns-in_default
-returns-in_default c = λ text p q. other_kind _ _ text p q c.args.kind c.in_default.in_default-own.keys6
+returns-in_default c = λ text p q. other_kind _ _ text p q c.args.kind (opened c.in_default.in_default-own.keys6)

@@ -11,18 +11,18 @@ use Rattle.hoa_put_formula.proofs.put_rabin.Goals as goal
 pub returns-then-p-eq0 : goal.returns-then-p-eq0
 unfolding bytes
 returns-then-p-eq0 c =
-    rw (rabin_none c.args.t4 c.args.p c.if-p-eq0.true) (few_word 1300 c.put.ensures (omega arith))
+    rw (rabin_none c.args.needs c.args.p c.if-p-eq0.true) (few_word 1300 c.put.ensures (omega arith))
 
 pub put_rabin_pair-next-requires : goal.put_rabin_pair-next-requires
 put_rabin_pair-next-requires c =
     let a = c.args in
-    let first : 0 + (1 + need a.t4 0) ≤ 32 = omega (arith, c.requires.p_bound_2, dealt_one a.t4, dealt_up a.t4 (0 + 1) a.p (omega arith)) in
+    let first : 0 + (1 + need a.needs 0) ≤ 32 = omega (arith, c.requires.p_bound_2, dealt_one a.needs, dealt_up a.needs (0 + 1) a.p (omega arith)) in
     record { at_bound = omega (arith, c.requires.at_bound); key_len_bound = omega arith; need_bound = first }
 
 pub put_more_rabin-requires : goal.put_more_rabin-requires
 put_more_rabin-requires c =
     let a = c.args in
-    let first : 0 + (1 + need a.t4 0) ≤ 32 = omega (arith, c.requires.p_bound_2, dealt_one a.t4, dealt_up a.t4 (0 + 1) a.p (omega arith)) in
+    let first : 0 + (1 + need a.needs 0) ≤ 32 = omega (arith, c.requires.p_bound_2, dealt_one a.needs, dealt_up a.needs (0 + 1) a.p (omega arith)) in
     let all : a.p - 1 + 1 ≡ a.p = omega arith in
     record { at_bound = omega (arith, c.requires.at_bound, c.put_rabin_pair-next.ensures.few); count_bound = omega (arith, c.requires.p_bound); count_bound_2 = rw all c.requires.p_bound_2 }
 
@@ -30,5 +30,5 @@ pub returns : goal.returns
 unfolding bytes
 returns c =
     let a = c.args in
-    let first : 0 + (1 + need a.t4 0) ≤ 32 = omega (arith, c.requires.p_bound_2, dealt_one a.t4, dealt_up a.t4 (0 + 1) a.p (omega arith)) in
-    rw (rabin_some a.t4 a.p c.if-p-eq0.false) (few_both 1300 c.put_rabin_pair-next.ensures c.put_more_rabin.ensures (omega arith))
+    let first : 0 + (1 + need a.needs 0) ≤ 32 = omega (arith, c.requires.p_bound_2, dealt_one a.needs, dealt_up a.needs (0 + 1) a.p (omega arith)) in
+    rw (rabin_some a.needs a.p c.if-p-eq0.false) (few_both 1300 c.put_rabin_pair-next.ensures c.put_more_rabin.ensures (omega arith))

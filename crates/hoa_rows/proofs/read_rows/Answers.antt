@@ -13,7 +13,7 @@ hand_over-requires c =
     let a = c.args in
     let read = c.read_entries in
     let told = subst
-    (Ended (rows_end a.limits a.text.now a.at) read.new.1.1.1.0 read.new.1.1.1.1.0 read.new.1.1.1.1.1.0 read.new.1.1.1.1.1.1.0)
+    (Ended (rows_end a.limits a.text.now a.at) read.new.tos read.new.sets read.new.firsts read.new.ends)
     c.in-Done.is read.ensures in
     handing a.limits a.text.now a.at _ _ _ _ _ told
 
@@ -22,7 +22,7 @@ returns-in-Refused c =
     let a = c.args in
     let read = c.read_entries in
     let told = subst
-    (Ended (rows_end a.limits a.text.now a.at) read.new.1.1.1.0 read.new.1.1.1.1.0 read.new.1.1.1.1.1.0 read.new.1.1.1.1.1.1.0)
+    (Ended (rows_end a.limits a.text.now a.at) read.new.tos read.new.sets read.new.firsts read.new.ends)
     c.in-Refused.is read.ensures in
     rows_refused a.limits a.text.now a.at a.from.now a.to.now a.marks.now _ _ told
 
@@ -32,6 +32,6 @@ returns-in-Done c =
     let read = c.read_entries in
     let over = c.hand_over in
     let told = subst
-    (Ended (rows_end a.limits a.text.now a.at) read.new.1.1.1.0 read.new.1.1.1.1.0 read.new.1.1.1.1.1.0 read.new.1.1.1.1.1.1.0)
+    (Ended (rows_end a.limits a.text.now a.at) read.new.tos read.new.sets read.new.firsts read.new.ends)
     c.in-Done.is read.ensures in
     rows_handed a.limits a.text.now a.at _ _ _ _ _ told a.from.now a.to.now a.marks.now _ _ _ over.result over.ensures

@@ -1,4 +1,5 @@
 -- `joined_and` meets its contract: case by case. Assumes nothing.
+use borrow.Enum.Refused.{opened}
 use Rattle.hoa_standard.proofs.Sides.{others_and}
 use Rattle.hoa_standard.proofs.joined_and.Goals as goal
 
@@ -15,4 +16,4 @@ pub returns-in-StreettPair : goal.returns-in-StreettPair
 returns-in-StreettPair c = rw c.in-StreettPair.is
 
 pub returns-in_default : goal.returns-in_default
-returns-in_default c = others_and c.args.p c.in_default.in_default-own.keys5
+returns-in_default c = others_and c.args.p (opened c.in_default.in_default-own.keys5)

@@ -1,4 +1,5 @@
 -- `joined_or` meets its contract: case by case. Assumes nothing.
+use borrow.Enum.Refused.{opened}
 use Rattle.hoa_standard.proofs.Sides.{or_lost, others_or}
 use Rattle.hoa_standard.proofs.joined_or.Goals as goal
 
@@ -18,4 +19,4 @@ pub returns-in-StreettFin : goal.returns-in-StreettFin
 returns-in-StreettFin c = rw c.in-StreettFin.is
 
 pub returns-in_default : goal.returns-in_default
-returns-in_default c = others_or c.args.p c.in_default.in_default-own.keys5
+returns-in_default c = others_or c.args.p (opened c.in_default.in_default-own.keys5)

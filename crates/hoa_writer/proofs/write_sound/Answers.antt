@@ -34,7 +34,7 @@ returns-then-out-length c =
     let small = not_large t c.if-n-gt-MOST_STATES.false c.if-from-gt-MOST_EDGES.false in
     let count = c.put_text-length in
     rw c.refused-then-out-length.ensures
-    (refused_short (refusal t a.condition a.needs) (too_large t) 42 (hoa_text t a.condition a.needs) a.out.now c.requires small count.new.0 count.result count.auto.0 count.ensures.next
+    (refused_short (refusal t a.condition a.needs) (too_large t) 42 (hoa_text t a.condition a.needs) a.out.now c.requires small count.new.out count.result count.auto.out count.ensures.next
     c.if-out-length.true)
 
 pub put_text-requires : goal.put_text-requires
@@ -50,5 +50,5 @@ returns c =
     let small = not_large t c.if-n-gt-MOST_STATES.false c.if-from-gt-MOST_EDGES.false in
     let count = c.put_text-length in
     let text = c.put_text in
-    given_text (refusal t a.condition a.needs) (too_large t) 42 (hoa_text t a.condition a.needs) a.out.now c.requires small count.new.0 count.result count.auto.0 count.ensures.next
-    text.new.0 _ c.if-out-length.false text.ensures.cells c.clear.ensures
+    given_text (refusal t a.condition a.needs) (too_large t) 42 (hoa_text t a.condition a.needs) a.out.now c.requires small count.new.out count.result count.auto.out count.ensures.next
+    text.new.out _ c.if-out-length.false text.ensures.cells c.clear.ensures

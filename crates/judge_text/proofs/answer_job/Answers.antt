@@ -7,11 +7,11 @@ pub show-requires : goal.show-requires
 show-requires c =
     let a = c.args in
     let lent = c.judge-answer.new.room in
-    judged_fits a.states a.start a.from.now a.to.now a.marks.now a.condition a.needs lent.0 lent.1.0 c.judge-answer.result
+    judged_fits a.states a.start a.from.now a.to.now a.marks.now a.condition a.needs lent c.judge-answer.new.scratch c.judge-answer.result
     (omega arith) c.requires.states_le_most_job_states c.requires.from_len_bound c.judge-answer.ensures
 
 pub returns : goal.returns
 returns c =
     let judged = c.judge-answer in
-    let lent = judged.new.1.1.1.1.1.1.1 in
+    let lent = judged.new.room in
     record { answer = judged.result; room = lent.0; scratch = lent.1.0; allowed = judged.ensures; held = c.show.ensures }

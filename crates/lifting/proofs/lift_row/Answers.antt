@@ -12,14 +12,14 @@ lift_level-next-requires c =
     let pre = c.requires in
     let inv = c.loop-level.invariant in
     let low : c.loop-level.level < c.args.shape.levels = omega arith in
-    record { ladder = pre.0; level_lt_levels = low; row_asked = pre.1.0; room = level_room _ _ _ _ _ pre.1.1 inv.3 low inv.1 }
+    record { ladder = pre.ladder; level_lt_levels = low; row_asked = pre.row_asked; room = level_room _ _ _ _ _ pre.room inv.3 low inv.1 }
 
 pub loop-level-preserved : goal.loop-level-preserved
 loop-level-preserved c =
     let called = c.lift_level-next.ensures in
     let loop = c.loop-level in
     let a = c.args in
-    let wrote = level_behind a.shape.k a.state loop.level a.at loop.next a.to.now a.marks.now loop.invariant.2 called.1 loop.invariant.1 in
+    let wrote = level_behind a.shape.k a.state loop.level a.at loop.next a.to.now a.marks.now loop.invariant.2 called.level_written loop.invariant.1 in
     (search rules, search rules, wrote, wrote_kept wrote)
 
 pub returns : goal.returns

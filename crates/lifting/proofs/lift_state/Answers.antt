@@ -33,7 +33,7 @@ returns-then-loops-eq0 c =
     let a = c.args in
     let to = no_loop a.shape.k a.to.now a.state a.to.now (none_2 c) in
     let marks = no_loop a.shape.k a.to.now 0 a.marks.now (none_2 c) in
-    record { value = rw to called.0; state_written = rw (to, marks) called.1 }
+    record { value = rw to called.value; state_written = rw (to, marks) called.row_written }
 
 pub write_loop-requires : goal.write_loop-requires
 write_loop-requires c =
@@ -44,4 +44,4 @@ pub returns : goal.returns
 returns c =
     let wrote = c.write_loop.ensures in
     let a = c.args in
-    let pre = c.requires in record { value = rw (loop_long a.shape.k a.shape.levels a.state a.to.now pre.0.all (some_2 c)); state_written = loop_written a.shape.k a.shape.levels a.state a.at a.to.now a.marks.now pre.0.all pre.1.0.even (some_2 c) wrote }
+    let pre = c.requires in record { value = rw (loop_long a.shape.k a.shape.levels a.state a.to.now pre.ladder.all (some_2 c)); state_written = loop_written a.shape.k a.shape.levels a.state a.at a.to.now a.marks.now pre.ladder.all pre.row_asked.even (some_2 c) wrote }

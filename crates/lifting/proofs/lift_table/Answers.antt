@@ -84,8 +84,8 @@ loop-state-preserved c =
     let loop = c.loop-state in
     let shape = c.args.shape in
     let row = source_row (row_at_lem_4 c) shape.k in
-    let wrote = row_behind row shape.k shape.levels loop.place c.requires.ladder.all loop.invariant.2 loop.invariant.3 called.1 in
-    (search rules, next (row_at_lem_4 c), row_placed row _ _ _ loop.invariant.2 called.0, wrote, wrote_kept wrote)
+    let wrote = row_behind row shape.k shape.levels loop.place c.requires.ladder.all loop.invariant.2 loop.invariant.3 called.state_written in
+    (search rules, next (row_at_lem_4 c), row_placed row _ _ _ loop.invariant.2 called.value, wrote, wrote_kept wrote)
 
 pub returns : goal.returns
 returns c =

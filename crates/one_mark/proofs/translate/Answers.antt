@@ -16,7 +16,7 @@ fill-requires c =
     let a = c.args in
     let told = c.answer-1.given in
     ready a.n a.start a.k c.level_count-levels.result a.from.now a.to.now a.marks.now a.leaves.now a.arrives.now a.bears.now
-    told.0.0 told.0.1.0 told.0.1.1.0 (sym told.1 ∙ c.foresee-answer.ensures)
+    c.in-Made.states c.in-Made.edges c.in-Made.start (sym c.in-Made.is ∙ c.foresee-answer.ensures)
     c.level_count-levels.ensures
 
 pub returns : goal.returns
@@ -24,5 +24,5 @@ returns c =
     let filled = c.fill.ensures in
     let told = c.answer-1.given in
     let a = c.args in
-    outcome_made a.n a.start a.k a.from.now a.to.now a.marks.now told.0.0 told.0.1.0 told.0.1.1.0
-    (sym told.1 ∙ c.foresee-answer.ensures) filled
+    outcome_made a.n a.start a.k a.from.now a.to.now a.marks.now c.in-Made.states c.in-Made.edges c.in-Made.start
+    (sym c.in-Made.is ∙ c.foresee-answer.ensures) filled

@@ -14,7 +14,7 @@ loop-i-preserved c =
     let a = c.args in
     let l = c.loop-i in
     let p = c.put in
-    (omega arith, p.auto.0 ∙ l.invariant.1, word_more _ l.out _ a.at l.i p.result a.word.now (omega arith) l.invariant.2 p.ensures)
+    (omega arith, p.auto.out ∙ l.invariant.1, word_more _ l.out _ a.at l.i p.result a.word.now (omega arith) l.invariant.2 p.ensures)
 
 pub shape_of-out : goal.shape_of-out
 shape_of-out c = c.loop-i.invariant.1

@@ -1,10 +1,11 @@
 -- `check` meets its contract: its tests are those of rows 1 to 4 in the order of `refusal` (`Causes`), and the edges are left to
 -- `edges::check_edges`. Assumes nothing.
-use mathlib.Core.Path.{sym, ◌∙◌}
+use mathlib.Core.Path.{sym, ap, ◌∙◌}
+use Prim.Native.Nat.{ℕ}
 use native.Mathlib.Omega.{arith}
 use lib.ListN.{length}
 use Rattle.table.specs.Table.{Table, lent}
-use Rattle.table.specs.Refusal.{used}
+use Rattle.table.specs.Refusal.{used, edge_refusal}
 use Rattle.table.proofs.Causes.{one_none, one_many, two_to, two_marks, two_many, three, four, left_to_edges}
 use Rattle.table.proofs.Faults.{start_aside}
 use Rattle.table.proofs.check.Goals as goal
@@ -82,4 +83,5 @@ returns c =
     let permitted = sym c.wrong_condition.ensures ∙ c.if-wrong_condition.false in
     let edges = left_to_edges (table_of_8 c) a.condition a.needs (omega arith) (omega arith) (omega arith) (omega arith) (omega arith) (omega arith) permitted in
     let aside = start_aside a.n a.start a.from.now a.to.now a.marks.now (used a.condition a.needs) 0 (length a.from.now) in
-    c.check_edges.ensures ∙ rw c.used_marks-used.ensures (sym aside ∙ edges)
+    let as_used = ap (λ (u : ℕ). edge_refusal (lent a.n 0 a.from.now a.to.now a.marks.now) u 0 (length a.from.now)) c.used_marks-used.ensures in
+    c.check_edges.ensures ∙ as_used ∙ sym aside ∙ edges

@@ -6,4 +6,4 @@ use Rattle.translate.proofs.main.Goals as goal
 pub slice_bounds-answer-end : goal.slice_bounds-answer-end
 slice_bounds-answer-end c =
     let read = c.read_input-input in
-    omega (arith, few 12289 read.ensures c.in-Bytes.is, read.auto.0)
+    omega (arith, few 12289 read.ensures c.in-Bytes.is, read.auto.text)

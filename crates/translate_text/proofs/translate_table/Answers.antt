@@ -8,17 +8,17 @@ use Rattle.translate_text.proofs.translate_table.Goals as goal
 pub slice_bounds-write_made-end : goal.slice_bounds-write_made-end
 slice_bounds-write_made-end c =
     let call = c.translate-translation in
-    omega (arith, (made_fits call.ensures c.in-Made.is).0, call.auto.1.1.1.1.1.1.0)
+    omega (arith, (made_fits call.ensures c.in-Made.is).0, call.auto.leaves)
 
 pub slice_bounds-write_made-end-in-Made : goal.slice_bounds-write_made-end-in-Made
 slice_bounds-write_made-end-in-Made c =
     let call = c.translate-translation in
-    omega (arith, (made_fits call.ensures c.in-Made.is).1.0, call.auto.1.1.1.1.1.1.1.0)
+    omega (arith, (made_fits call.ensures c.in-Made.is).1.0, call.auto.arrives)
 
 pub slice_bounds-write_made-end-in-Made-2 : goal.slice_bounds-write_made-end-in-Made-2
 slice_bounds-write_made-end-in-Made-2 c =
     let call = c.translate-translation in
-    omega (arith, (made_fits call.ensures c.in-Made.is).1.1, call.auto.1.1.1.1.1.1.1.1.0)
+    omega (arith, (made_fits call.ensures c.in-Made.is).1.1, call.auto.bears)
 
 pub returns-in-Refused : goal.returns-in-Refused
 returns-in-Refused c =

@@ -11,15 +11,15 @@ pub loop-i-init : goal.loop-i-init
 loop-i-init c = (omega arith, refl)
 
 pub overflow_add-mark : goal.overflow_add-mark
-overflow_add-mark c = omega (arith, dealt_within c.args.t2 c.loop-i.i c.args.pair width c.loop-i-test.true c.requires.pair_bound)
+overflow_add-mark c = omega (arith, dealt_within c.args.needs c.loop-i.i c.args.pair width c.loop-i-test.true c.requires.pair_bound)
 
 pub overflow_add-mark-in-loop-i : goal.overflow_add-mark-in-loop-i
-overflow_add-mark-in-loop-i c = omega (arith, c.loop-i.invariant.1, dealt_within c.args.t2 c.loop-i.i c.args.pair width c.loop-i-test.true c.requires.pair_bound)
+overflow_add-mark-in-loop-i c = omega (arith, c.loop-i.invariant.1, dealt_within c.args.needs c.loop-i.i c.args.pair width c.loop-i-test.true c.requires.pair_bound)
 
 pub loop-i-preserved : goal.loop-i-preserved
-loop-i-preserved c = (omega (arith, c.loop-i-test.true), omega (arith, c.loop-i.invariant.1, dealt_next c.args.t2 c.loop-i.i))
+loop-i-preserved c = (omega (arith, c.loop-i-test.true), omega (arith, c.loop-i.invariant.1, dealt_next c.args.needs c.loop-i.i))
 
 pub returns : goal.returns
 returns c =
     let e : c.loop-i.i ≡ c.args.pair = omega (arith, c.loop-i.invariant.0, c.loop-i-test.false) in
-    c.loop-i.invariant.1 ∙ ap (dealt c.args.t2) e
+    c.loop-i.invariant.1 ∙ ap (dealt c.args.needs) e

@@ -37,7 +37,7 @@ returns-then-enough c =
     let enough = sym c.enough.ensures ∙ c.if-enough.true in
     let copied = c.copy_rows in
     handed_all a.rows a.firsts.now a.ends.now a.tos.now a.sets.now a.from.now a.to.now a.marks.now c.requires enough _ _ _ _ _ _
-    copied.ensures copied.auto.1.1.1.1.1.0 copied.auto.1.1.1.1.1.1.0 copied.auto.1.1.1.1.1.1.1.0
+    copied.ensures copied.auto.from copied.auto.to copied.auto.marks
     c.fill.ensures c.fill-then-enough.ensures c.fill-then-enough-2.ensures c.fill.auto.cells c.fill-then-enough.auto.cells c.fill-then-enough-2.auto.cells
 
 pub returns : goal.returns

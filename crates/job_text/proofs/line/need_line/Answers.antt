@@ -2,7 +2,7 @@
 use mathlib.Core.Path.{refl, sym, subst}
 use borrow.Author.Tests.{not-true, not-false}
 use Rattle.job_values.specs.inner.Told.{Unformed}
-use Rattle.job_text.specs.Value.{rules}
+use Rattle.job_text.specs.Value.{needs}
 use Rattle.job_text.specs.Job.{asked, unlimited, need=}
 use Rattle.job_text.specs.Given.{NeedAt}
 use Rattle.job_text.specs.Text.{lines}
@@ -24,9 +24,9 @@ pub returns-then-not-span : goal.returns-then-not-span
 returns-then-not-span c =
     let a = c.args in
     let f = c.find_line-span in
-    let said = asked need= (rules a.kind a.count) unlimited (lines (drop a.at a.text.now)) in
+    let said = asked need= (needs a.kind a.count) unlimited (lines (drop a.at a.text.now)) in
     subst (NeedAt a.text.now said a.line) (sym c.need_fault.ensures)
-    (asked_missing a.text.now a.at need= f.result f.ensures (rules a.kind a.count) unlimited a.line c.missing.result (not-true _ c.if-not-span.true) c.missing.ensures)
+    (asked_missing a.text.now a.at need= f.result f.ensures (needs a.kind a.count) unlimited a.line c.missing.result (not-true _ c.if-not-span.true) c.missing.ensures)
 
 pub read_needs-list-requires : goal.read_needs-list-requires
 read_needs-list-requires c = record { within = (c.find_line-span.ensures.there (not-false _ c.if-not-span.false)).within; count_bound = c.requires }
@@ -35,29 +35,29 @@ read_needs-list-requires c = record { within = (c.find_line-span.ensures.there (
 no_value : (c : goal.Then-not-list)
     → let a = c.args in
     let f = c.find_line-span in
-    Unformed (rules a.kind a.count) a.text.now f.result.from f.result.end c.read_needs-list.result.wrong
+    Unformed (needs a.kind a.count) a.text.now f.result.from f.result.end c.read_needs-list.result.wrong
 no_value c =
     let a = c.args in
     let f = c.find_line-span in
     let l = c.read_needs-list in
-    list_wrong (rules a.kind a.count) a.text.now f.result.from f.result.end l.result l.ensures (not-true _ c.if-not-list.true)
+    list_wrong (needs a.kind a.count) a.text.now f.result.from f.result.end l.result l.ensures (not-true _ c.if-not-list.true)
 
 -- a value that is not of the form
 no_value_2 : (c : goal.After-need_fault-then-not-list)
     → let a = c.args in
     let f = c.find_line-span in
-    Unformed (rules a.kind a.count) a.text.now f.result.from f.result.end c.read_needs-list.result.wrong
+    Unformed (needs a.kind a.count) a.text.now f.result.from f.result.end c.read_needs-list.result.wrong
 no_value_2 c =
     let a = c.args in
     let f = c.find_line-span in
     let l = c.read_needs-list in
-    list_wrong (rules a.kind a.count) a.text.now f.result.from f.result.end l.result l.ensures (not-true _ c.if-not-list.true)
+    list_wrong (needs a.kind a.count) a.text.now f.result.from f.result.end l.result l.ensures (not-true _ c.if-not-list.true)
 
 pub fault_at-requires : goal.fault_at-requires
 fault_at-requires c =
     let a = c.args in
     let f = c.find_line-span in
-    wrong_fits a.text.now a.at need= f.result f.ensures (rules a.kind a.count) _ (not-false _ c.if-not-span.false) (no_value c)
+    wrong_fits a.text.now a.at need= f.result f.ensures (needs a.kind a.count) _ (not-false _ c.if-not-span.false) (no_value c)
 
 pub need_fault-requires-then-not-list : goal.need_fault-requires-then-not-list
 need_fault-requires-then-not-list c = search simple
@@ -66,9 +66,9 @@ pub returns-then-not-list : goal.returns-then-not-list
 returns-then-not-list c =
     let a = c.args in
     let f = c.find_line-span in
-    let said = asked need= (rules a.kind a.count) unlimited (lines (drop a.at a.text.now)) in
+    let said = asked need= (needs a.kind a.count) unlimited (lines (drop a.at a.text.now)) in
     subst (NeedAt a.text.now said a.line) (sym c.need_fault-then-not-list.ensures)
-    (asked_malformed a.text.now a.at need= f.result f.ensures (rules a.kind a.count) unlimited a.line c.fault_at.result (not-false _ c.if-not-span.false) _ (no_value_2 c) c.fault_at.ensures)
+    (asked_malformed a.text.now a.at need= f.result f.ensures (needs a.kind a.count) unlimited a.line c.fault_at.result (not-false _ c.if-not-span.false) _ (no_value_2 c) c.fault_at.ensures)
 
 pub overflow_add-result : goal.overflow_add-result
 overflow_add-result c = search simple
@@ -78,5 +78,5 @@ returns c =
     let a = c.args in
     let f = c.find_line-span in
     let l = c.read_needs-list in
-    asked_says a.text.now a.at need= f.result f.ensures (rules a.kind a.count) unlimited _ (not-false _ c.if-not-span.false)
-    (list_right (rules a.kind a.count) a.text.now f.result.from f.result.end l.result l.ensures (not-false _ c.if-not-list.false)) refl
+    asked_says a.text.now a.at need= f.result f.ensures (needs a.kind a.count) unlimited _ (not-false _ c.if-not-span.false)
+    (list_right (needs a.kind a.count) a.text.now f.result.from f.result.end l.result l.ensures (not-false _ c.if-not-list.false)) refl

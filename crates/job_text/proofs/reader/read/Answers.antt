@@ -55,7 +55,7 @@ body-fault c =
     let text = c.args.text.now in
     let h = c.read_head-head in
     let b = c.read_body-closed in
-    let told = subst (BodyAt text h.result.next h.result.line h.result.edges b.new.1.1.1.1.0 b.new.1.1.1.1.1.0 b.new.1.1.1.1.1.1.0) c.in-Refused-closed.is b.ensures in
+    let told = subst (BodyAt text h.result.next h.result.line h.result.edges b.new.from b.new.to b.new.marks) c.in-Refused-closed.is b.ensures in
     body_blamed text c.if-text-gt-MOST_BYTES.false _ _ _ (head_sound text _ h.result h.ensures c.in_default.is) _ told
 
 -- and a fault of the body
@@ -66,7 +66,7 @@ body-fault_2 c =
     let text = c.args.text.now in
     let h = c.read_head-head in
     let b = c.read_body-closed in
-    let told = subst (BodyAt text h.result.next h.result.line h.result.edges b.new.1.1.1.1.0 b.new.1.1.1.1.1.0 b.new.1.1.1.1.1.1.0) c.in-Refused-closed.is b.ensures in
+    let told = subst (BodyAt text h.result.next h.result.line h.result.edges b.new.from b.new.to b.new.marks) c.in-Refused-closed.is b.ensures in
     body_blamed text c.if-text-gt-MOST_BYTES.false _ _ _ (head_sound text _ h.result h.ensures c.in_default.is) _ told
 
 pub overflow_cast-fault-in-Refused-closed : goal.overflow_cast-fault-in-Refused-closed
@@ -84,7 +84,7 @@ returns c =
     let text = a.text.now in
     let h = c.read_head-head in
     let b = c.read_body-closed in
-    let told = subst (BodyAt text h.result.next h.result.line h.result.edges b.new.1.1.1.1.0 b.new.1.1.1.1.1.0 b.new.1.1.1.1.1.1.0) c.in_default-closed.is b.ensures in
+    let told = subst (BodyAt text h.result.next h.result.line h.result.edges b.new.from b.new.to b.new.marks) c.in_default-closed.is b.ensures in
     read_done text a.from.now a.to.now a.marks.now _ _ _ _ (head_of h.result) told.given
     (job_said text c.if-text-gt-MOST_BYTES.false _ _ _ (head_sound text _ h.result h.ensures c.in_default.is) told.given told.place told.rest told.read)
     told.held

@@ -11,12 +11,12 @@ pub returns-in-Refused : goal.returns-in-Refused
 returns-in-Refused c =
     let a = c.args in
     let r = c.read_edges in
-    let told = subst (EdgesAt a.text.now a.at a.line a.edges r.new.1.1.1.1.0 r.new.1.1.1.1.1.0 r.new.1.1.1.1.1.1.0) c.in-Refused.is r.ensures in
+    let told = subst (EdgesAt a.text.now a.at a.line a.edges r.new.from r.new.to r.new.marks) c.in-Refused.is r.ensures in
     blamed_on a.text.now _ _ _ told (body_stops a.edges a.line (lines (drop a.at a.text.now)))
 
 pub returns-in-Next : goal.returns-in-Next
 returns-in-Next c =
     let a = c.args in
     let r = c.read_edges in
-    let told = subst (EdgesAt a.text.now a.at a.line a.edges r.new.1.1.1.1.0 r.new.1.1.1.1.1.0 r.new.1.1.1.1.1.1.0) c.in-Next.is r.ensures in
+    let told = subst (EdgesAt a.text.now a.at a.line a.edges r.new.from r.new.to r.new.marks) c.in-Next.is r.ensures in
     body_ends a.text.now a.at a.line a.edges c.in-Next.next _ _ _ c.read_end.result told c.read_end.ensures

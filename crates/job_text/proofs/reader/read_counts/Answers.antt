@@ -4,7 +4,7 @@ use mathlib.Core.Path.{◌≡◌}
 use Prim.Native.Nat.{◌+◌}
 use lib.ListN.{drop}
 use Rattle.job_text.specs.Text.{lines}
-use Rattle.job_text.specs.Value.{number, rules, most_count}
+use Rattle.job_text.specs.Value.{number, needs, most_count}
 use Rattle.job_text.specs.Job.{says, asked, above, unlimited, most_job_edges, count=, need=, edges=}
 use Rattle.job_text.proofs.Heads.{blamed_at, number_stops, number_goes, step_stops, step_goes, says_below, count_stops, need_stops, edges_stop, edges_go, head_stops}
 use native.Mathlib.Omega.{arith}
@@ -46,14 +46,14 @@ counts_4 c =
 -- and the need line
 needs-said : (c : goal.After-head_refused-in_default-sized)
     → let a = c.args in
-    asked need= (rules a.kind c.in-Value.count) unlimited (lines (drop c.in-Value.need_at a.text.now))
+    asked need= (needs a.kind c.in-Value.count) unlimited (lines (drop c.in-Value.need_at a.text.now))
     ≡ says c.need_line-need.result.needs (lines (drop c.in-Next.edges_at a.text.now))
 needs-said c = step_goes c.args.text.now (c.args.line + 1) _ c.in-Next.is c.need_line-need.ensures
 
 -- and the need line
 needs-said_2 : (c : goal.In-Value-sized)
     → let a = c.args in
-    asked need= (rules a.kind c.in-Value.count) unlimited (lines (drop c.in-Value.need_at a.text.now))
+    asked need= (needs a.kind c.in-Value.count) unlimited (lines (drop c.in-Value.need_at a.text.now))
     ≡ says c.need_line-need.result.needs (lines (drop c.in-Next.edges_at a.text.now))
 needs-said_2 c = step_goes c.args.text.now (c.args.line + 1) _ c.in-Next.is c.need_line-need.ensures
 

@@ -17,7 +17,7 @@ returns-then-next-at c =
     record {
       ordered = r.ensures.ordered;
       ends = r.ensures.ends;
-      stuck = number_empty a.stop p.1 a.text.now a.at a.end r.result.next p.0 r.ensures.ordered r.ensures.ends r.ensures.stops c.if-next-at.true;
+      stuck = number_empty a.stop p.stop_value a.text.now a.at a.end r.result.next p.within r.ensures.ordered r.ensures.ends r.ensures.stops c.if-next-at.true;
     }
 
 -- the run is a number
@@ -39,7 +39,7 @@ returns-then-text-next c =
       ordered = r.ensures.ordered;
       ends = r.ensures.ends;
       stuck =
-          number_cut a.stop p.1 a.text.now a.at a.end r.result.next p.0 r.ensures.ordered r.ensures.ends r.ensures.stops r.result.value
+          number_cut a.stop p.stop_value a.text.now a.at a.end r.result.next p.within r.ensures.ordered r.ensures.ends r.ensures.stops r.result.value
           (run_is c c.if-next-at.false) c.if-text-next.true;
     }
 
@@ -50,5 +50,5 @@ returns c =
     let r = c.number_run-run in
     let n : r.result.next + 1 ≡ suc r.result.next = omega arith in
     rw n
-    (number_got a.stop p.1 a.text.now a.at a.end r.result.next p.0 r.ensures.ordered r.ensures.ends r.result.value
+    (number_got a.stop p.stop_value a.text.now a.at a.end r.result.next p.within r.ensures.ordered r.ensures.ends r.result.value
     (run_is_2 c c.if-next-at.false) c.if-text-next.false)

@@ -47,8 +47,8 @@ returns-in_default c =
     let p = c.requires in
     let place = c.wrong_place.ensures ∙ ap wrong_place c.in_default.is in
     subst (ListAt (λ (bs : List ℕ). eight (listed a.count (fields bs))) a.text.now a.at a.end) (sym (c.no_needs.ensures ∙ ap no_needs place))
-    (eight_lost a.text.now a.at a.end a.count p.1.0 _
-    (field_lost a.text.now a.at a.end (a.count - 1) l.needs l.next l.i p.0 l.invariant c.loop-i-test.true _
+    (eight_lost a.text.now a.at a.end a.count p.count_nonzero.0 _
+    (field_lost a.text.now a.at a.end (a.count - 1) l.needs l.next l.i p.within l.invariant c.loop-i-test.true _
     (subst (FieldAt comma number a.text.now l.next a.end) c.in_default.is c.number_field-field.ensures)))
 
 pub offset_bounds-needs-i : goal.offset_bounds-needs-i
@@ -68,8 +68,8 @@ loop-i-preserved c =
     let a = c.args in
     let l = c.loop-i in
     let p = c.requires in
-    field_got a.text.now a.at a.end (a.count - 1) l.needs l.next l.i p.0 l.invariant c.loop-i-test.true _ _
-    (subst (FieldAt comma number a.text.now l.next a.end) c.in-Value.is c.number_field-field.ensures) (omega (arith, p.1.0, p.1.1))
+    field_got a.text.now a.at a.end (a.count - 1) l.needs l.next l.i p.within l.invariant c.loop-i-test.true _ _
+    (subst (FieldAt comma number a.text.now l.next a.end) c.in-Value.is c.number_field-field.ensures) (omega (arith, p.count_nonzero.0, p.count_nonzero.1))
 
 -- all but the last are read
 at_last : (c : goal.After-no_needs-in_default-field) → c.loop-i.i ≡ c.args.count - 1
@@ -101,8 +101,8 @@ returns-in_default-field c =
     let p = c.requires in
     let place = c.wrong_place-in_default-field.ensures ∙ ap wrong_place c.in_default-field.is in
     subst (ListAt (λ (bs : List ℕ). eight (listed a.count (fields bs))) a.text.now a.at a.end) (sym (c.no_needs-in_default-field.ensures ∙ ap no_needs place))
-    (eight_lost a.text.now a.at a.end a.count p.1.0 _
-    (last_lost a.text.now a.at a.end (a.count - 1) l.needs l.next l.i p.0 l.invariant (at_last c) _
+    (eight_lost a.text.now a.at a.end a.count p.count_nonzero.0 _
+    (last_lost a.text.now a.at a.end (a.count - 1) l.needs l.next l.i p.within l.invariant (at_last c) _
     (subst (FieldAt newline number a.text.now l.next a.end) c.in_default-field.is c.number_field-field-2.ensures)))
 
 pub offset_bounds-needs-last : goal.offset_bounds-needs-last
@@ -116,6 +116,6 @@ returns c =
     let a = c.args in
     let l = c.loop-i in
     let p = c.requires in
-    eight_got a.text.now a.at a.end a.count p.1.0 _
-    (last_got a.text.now a.at a.end (a.count - 1) l.needs l.next l.i p.0 l.invariant (at_last_2 c) _ _
-    (subst (FieldAt newline number a.text.now l.next a.end) c.in-Value-field.is c.number_field-field-2.ensures) (omega (arith, p.1.0, p.1.1)))
+    eight_got a.text.now a.at a.end a.count p.count_nonzero.0 _
+    (last_got a.text.now a.at a.end (a.count - 1) l.needs l.next l.i p.within l.invariant (at_last_2 c) _ _
+    (subst (FieldAt newline number a.text.now l.next a.end) c.in-Value-field.is c.number_field-field-2.ensures) (omega (arith, p.count_nonzero.0, p.count_nonzero.1)))

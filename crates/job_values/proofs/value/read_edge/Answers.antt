@@ -65,10 +65,9 @@ number_field-second-requires c =
 pub returns-in_default-second : goal.returns-in_default-second
 returns-in_default-second c =
     let a = c.args in
-    let f = c.first-1.given in
     subst (Unformed edge a.text.now a.at a.end) (sym (c.wrong_place-in_default-second.ensures ∙ ap wrong_place c.in_default-second.is))
     (to_lost a.text.now a.at a.end c.requires _ _ (first_2 c) _
-    (subst (FieldAt comma number a.text.now f.0.1.0 a.end) c.in_default-second.is c.number_field-second.ensures))
+    (subst (FieldAt comma number a.text.now c.in-Value.to_at a.end) c.in_default-second.is c.number_field-second.ensures))
 
 -- the second
 second : (c : goal.In-Value-second)

@@ -1,7 +1,7 @@
 -- `value::read_needs` meets its contract: where the kind and the count have needs the list decides, and else the word `-`. Assumes nothing.
 use mathlib.Core.Path.{sym, subst, ◌∙◌}
 use Rattle.table.specs.Row.{part}
-use Rattle.job_values.specs.Value.{dash, rules as needs_of}
+use Rattle.job_values.specs.Value.{dash, needs as needs_of}
 use Rattle.job_values.specs.inner.Told.{WordAt, ListAt}
 use Rattle.job_values.proofs.Needs.{listed_told, dash_needs, dash_lost, needs_few}
 use Rattle.job_values.proofs.value.read_needs.Goals as goal

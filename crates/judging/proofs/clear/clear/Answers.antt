@@ -1,7 +1,7 @@
 -- `clear::clear` meets its contract. The invariant: the first i cells are 0 and the rest as it was (`fill_more`). The measure is the cells left.
 -- Assumes nothing.
 use mathlib.Core.Path.{◌≡◌, refl, ap, ◌∙◌}
-use mathlib.Core.List.{List, ◌++◌, append_nil}
+use mathlib.Core.List.{List, ◌++◌, append-nil}
 use Prim.Native.Nat.{ℕ, ◌-◌}
 use native.Mathlib.Omega.{arith}
 use lib.ListN.{length, drop, set, replicate, length-set, drop_of_length-le}
@@ -37,4 +37,4 @@ returns c =
     let s = c.args.cells.now in
     let e : c.loop-i.i ≡ length s = omega arith in
     c.loop-i.invariant.1.0 ∙ ap (λ (k : ℕ). replicate k 0 ++ drop k s) e
-    ∙ ap (λ (x : List ℕ). replicate (length s) 0 ++ x) (drop_of_length-le s {i = length s} (omega arith)) ∙ append_nil (replicate (length s) 0)
+    ∙ ap (λ (x : List ℕ). replicate (length s) 0 ++ x) (drop_of_length-le s {i = length s} (omega arith)) ∙ append-nil (replicate (length s) 0)

@@ -29,11 +29,11 @@ loop-i-smaller c = omega arith
 
 pub loop-i-preserved : goal.loop-i-preserved
 loop-i-preserved c =
-    let eight : length c.args.t1 ≡ 8 = search trivial in
-    let more = largest_more c.args.t1 c.loop-i.i c.loop-i.most (omega arith) c.loop-i.invariant.1 in
-    (omega arith, more ∙ ap (λ (k : ℕ). max k (largest (drop (c.loop-i.i + 1) c.args.t1))) (sym c.larger-most.ensures))
+    let eight : length c.args.needs ≡ 8 = search trivial in
+    let more = largest_more c.args.needs c.loop-i.i c.loop-i.most (omega arith) c.loop-i.invariant.1 in
+    (omega arith, more ∙ ap (λ (k : ℕ). max k (largest (drop (c.loop-i.i + 1) c.args.needs))) (sym c.larger-most.ensures))
 
 pub returns : goal.returns
 returns c =
-    let eight : length c.args.t1 ≡ 8 = search trivial in
-    largest_done c.args.t1 c.loop-i.i c.loop-i.most (omega arith) c.loop-i.invariant.1
+    let eight : length c.args.needs ≡ 8 = search trivial in
+    largest_done c.args.needs c.loop-i.i c.loop-i.most (omega arith) c.loop-i.invariant.1

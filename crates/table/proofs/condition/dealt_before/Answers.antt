@@ -15,7 +15,7 @@ pub loop-i-init : goal.loop-i-init
 loop-i-init c = (omega arith, (refl, (refl, omega arith)))
 
 -- a need is a word of 32 bits
-need-fits : (c : goal.In-loop-i) → Fits w32 (get_or c.args.t2 c.loop-i.i 0)
+need-fits : (c : goal.In-loop-i) → Fits w32 (get_or c.args.needs c.loop-i.i 0)
 need-fits c = search rules
 
 pub overflow_add-sum : goal.overflow_add-sum
@@ -26,10 +26,10 @@ overflow_add-sum-in-loop-i c = omega (arith, need-fits c)
 
 pub loop-i-preserved : goal.loop-i-preserved
 loop-i-preserved c =
-    let more = dealt_more c.args.t2 c.loop-i.i in
+    let more = dealt_more c.args.needs c.loop-i.i in
     (omega arith, (refl, (omega (arith, more, c.loop-i.invariant.1.1.0), omega (arith, need-fits c))))
 
 pub returns : goal.returns
 returns c =
     let e : c.loop-i.i ≡ c.args.p = omega arith in
-    c.loop-i.invariant.1.1.0 ∙ ap (dealt c.args.t2) e
+    c.loop-i.invariant.1.1.0 ∙ ap (dealt c.args.needs) e

@@ -13,15 +13,15 @@ loop-i-init c = (c.requires, refl)
 
 pub returns-then-needs-i-gt0 : goal.returns-then-needs-i-gt0
 returns-then-needs-i-gt0 c =
-    let eight : length c.args.t2 ≡ 8 = search rules in
-    sym (c.loop-i.invariant.1 ∙ need_found c.args.t2 c.loop-i.i (omega arith) c.if-needs-i-gt0.true)
+    let eight : length c.args.needs ≡ 8 = search rules in
+    sym (c.loop-i.invariant.1 ∙ need_found c.args.needs c.loop-i.i (omega arith) c.if-needs-i-gt0.true)
 
 pub loop-i-preserved : goal.loop-i-preserved
 loop-i-preserved c =
-    let eight : length c.args.t2 ≡ 8 = search rules in
-    (omega arith, c.loop-i.invariant.1 ∙ need_passed c.args.t2 c.loop-i.i (omega arith) c.if-needs-i-gt0.false)
+    let eight : length c.args.needs ≡ 8 = search rules in
+    (omega arith, c.loop-i.invariant.1 ∙ need_passed c.args.needs c.loop-i.i (omega arith) c.if-needs-i-gt0.false)
 
 pub returns : goal.returns
 returns c =
-    let eight : length c.args.t2 ≡ 8 = search rules in
-    sym (c.loop-i.invariant.1 ∙ need_over c.args.t2 c.loop-i.i (omega arith))
+    let eight : length c.args.needs ≡ 8 = search rules in
+    sym (c.loop-i.invariant.1 ∙ need_over c.args.needs c.loop-i.i (omega arith))

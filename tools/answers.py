@@ -72,6 +72,8 @@ class Names:
         self.asked_at = it["asked_at"]
         self.asked = it["asked"]
         self.pre = it["pre"]
+        self.in_cycle = False
+        self.goal_place = None  # the place of the goal whose answer is turned
         self.clauses = it["clauses"]
         self.args = {a.split(".")[-1]: b.split(".")[-1] for a, b in it["args"] if a.startswith(".args")}
 
@@ -111,7 +113,7 @@ class Names:
             if self.pre and self.nth(parts[1:], len(self.pre["fields"])):
                 n, k = self.nth(parts[1:], len(self.pre["fields"]))
                 parts = ["requires", self.pre["fields"][n]] + parts[1 + k:]
-        if self.pre and parts[0] == "requires" and parts[1:2] and parts[1] in ("0", "1") and self.nth(parts[1:], len(self.pre["fields"])):
+        if not self.in_cycle and self.pre and parts[0] == "requires" and parts[1:2] and parts[1] in ("0", "1") and self.nth(parts[1:], len(self.pre["fields"])):
             n, k = self.nth(parts[1:], len(self.pre["fields"]))
             parts = ["requires", self.pre["fields"][n]] + parts[1 + k:]
         if parts[0] in ("args", "requires", "ranges", "lifetimes", "ghost", "type_inv"):
@@ -127,6 +129,8 @@ class Names:
         raise Stuck(f"no step {'.'.join(parts)} at {place}")
 
     def start(self, parts):
+        if self.in_cycle and parts[0] == "requires" and parts[1:2] and parts[1] in ("0", "1"):
+            parts = (["decreases"] if parts[1] == "0" else ["requires"]) + parts[2:]
         if parts[0] in ("args", "ranges") and parts[1:2] and parts[1] in self.args:
             return [parts[0], self.args[parts[1]]] + parts[2:]
         return parts
@@ -147,7 +151,7 @@ class Names:
             if own and j == i:
                 return [arm[0], own] + parts[1:]
         if parts[1:2] == ["given"]:
-            for variable, step in self.typed[self.index[here]]:
+            for variable, step in self.typed[self.index[self.goal_place or here]]:
                 if alike(step) == alike(parts[0]):
                     return ["type_inv", variable] + parts[2:]
         rest = parts[1:]
@@ -238,7 +242,7 @@ def read_file(text):
             unfolds.append(rest[i])
             i += 1
         clauses = []
-        while i < len(rest) and (rest[i].startswith((" ", "\t")) or re.match(re.escape(name) + r"(?=[\s=]|$)", rest[i]) or not rest[i].strip() and i + 1 < len(rest) and rest[i + 1].startswith((" ", "\t"))):
+        while i < len(rest) and (rest[i].startswith((" ", "\t", ")", "]", "}")) or re.match(re.escape(name) + r"(?=[\s=]|$)", rest[i]) or not rest[i].strip() and i + 1 < len(rest) and rest[i + 1].startswith((" ", "\t"))):
             clauses.append(rest[i])
             i += 1
         if not clauses:
@@ -427,6 +431,7 @@ class Turn:
 
     def rewrite(self, text, env, root_place):
         self.root_old = next((p for p, n in self.names.new_place.items() if n == root_place), None)
+        self.names.goal_place = self.root_old
         words = pieces(text)
         out = []
         env = dict(env)
@@ -786,6 +791,43 @@ def turn_function(crate, folder, it, names):
     return head, uses, invariants, texts, path, said
 
 
+def turn_cycle(crate, folder, data):
+    """The answers of a cycle of calls: those of each of its functions, whose names begin with the function's, and take the measure's value `t`."""
+    head, uses, decls = read_file((folder / "Proof.antt").read_text().rstrip("\n") + "\n")
+    stem = f"Rattle-{crate}-proofs.{'.'.join(folder.relative_to(folder_top(folder)).parts)}.Lts-"
+    invariants, answers, taken = [], [], set()
+    for key in [k for k in data if k.startswith(stem)]:
+        fn = key[len(stem):]
+        names = Names(data[key])
+        names.in_cycle = True
+        own = []
+        for d in decls:
+            m = re.match(r"(?:\(t : ℕ\) → )?" + fn + r"_lts\.((?:Need|invariant|decreases)-\S+)", d.sort.strip())
+            if m and not d.sort.strip().startswith(fn + "_lts.Claims"):
+                clauses = re.sub(r"(?m)^" + re.escape(d.name) + r" t\b", d.name, d.clauses) if m.group(1).startswith("Need") else d.clauses
+                own.append(Decl(d.comment, d.mods, d.name, "tie." + m.group(1), d.unfolds, clauses))
+                taken.add(d.name)
+        turn = Turn(names, own)
+        for d in own:
+            if re.match(r"tie\.(invariant|decreases)-", d.sort):
+                text = layout_invariant(turn, d, None)
+                invariants.append(re.sub(r"(invariant|decreases)-(?=loop)", lambda m: f"{m.group(1)}-{fn}-", text))
+                continue
+            got = names.need(turn.goal_of[d.name])
+            if got is None or all(is_found(body) for _, body in clause_list(d)):
+                continue
+            at, at_new, new = got
+            lines = d.comment + [f"pub {fn}-{new} : goal.{fn}-{new}"] + d.unfolds
+            for args, body in clause_list(d):
+                env = {args[0]: (at, args[0])} if args and re.match(r"[A-Za-z]", args[0]) else {}
+                parts = turn.rewrite(body, env, at_new)
+                lines.append(f"{fn}-{new} t {' '.join(a for a in args if a != 'κs')} ={joined(parts, turn)}".rstrip())
+            answers.append("\n".join(lines))
+    others = ["\n".join(d.comment + [f"{d.mods}{d.name} : {d.sort.strip()}"] + d.unfolds + [d.clauses.rstrip()]) for d in decls if d.name not in taken and "_lts" not in d.sort and "statement" not in d.sort]
+    path = ".".join(["Rattle", crate, "proofs"] + list(folder.relative_to(folder_top(folder)).parts))
+    return head, uses, invariants, others + answers, path, []
+
+
 def folder_top(folder):
     while folder.name != "proofs":
         folder = folder.parent
@@ -834,9 +876,12 @@ def main(argv):
             continue
         key = f"Rattle-{crate}-proofs.{rel}.Lts"
         try:
-            if key not in data:
+            if folder.name.startswith("+"):
+                head, uses, invariants, answers, path, said = turn_cycle(crate, folder, data)
+            elif key not in data:
                 raise Stuck("rt names has nothing of it")
-            head, uses, invariants, answers, path, said = turn_function(crate, folder, data[key], Names(data[key]))
+            else:
+                head, uses, invariants, answers, path, said = turn_function(crate, folder, data[key], Names(data[key]))
         except Stuck as why:
             print(f"stuck: {crate} {rel}: {why}")
             stuck += 1

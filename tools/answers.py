@@ -157,6 +157,8 @@ class Names:
         rest = parts[1:]
         if rest[:1] == ["kept"]:
             rest = ["auto"] + rest[1:]
+        if rest[:1] == ["last"]:
+            rest = ["new"] + rest[1:]
         if rest[:1] == ["inv"]:
             rest = ["invariant"] + rest[1:]
         turns = dict(row[4])
@@ -501,7 +503,7 @@ class Turn:
                     out.append(".".join([root] + long))
                 i = k
                 continue
-            if w in self.helpers and not before_dot:
+            if w in self.helpers and not before_dot and not self.is_field(words, i):
                 d, at, parts = self.helpers[w]
                 # the helper's place argument
                 key = (w, root_place)
@@ -520,6 +522,14 @@ class Turn:
             out.append(w)
             i += 1
         return out
+
+    def is_field(self, words, i):
+        """Whether word i is the name of a field in a record that is built."""
+        k = self.skip(words, i + 1)
+        p = i - 1
+        while p >= 0 and words[p].isspace():
+            p -= 1
+        return k < len(words) and words[k] == "=" and p >= 0 and words[p] in ("{", ";")
 
     def path_behind(self, words, k):
         parts = []

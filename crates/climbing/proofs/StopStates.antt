@@ -7,8 +7,8 @@ use native.Mathlib.Omega.{arith}
 use Rattle.marks.proofs.Cases.{same, below}
 use Rattle.table.specs.Table.{Table, Edge, Stop}
 use Rattle.table.specs.Refusal.{Proper}
-use Rattle.climbing.specs.Place.{row_start, row_length, leaves, arrives}
-use Rattle.climbing.specs.Source.{halts, stops}
+use Rattle.climbing.specs.Place.{row_start, row_length, arrives}
+use Rattle.climbing.specs.Source.{stops}
 use Rattle.climbing.proofs.Order.{front_up, table_row}
 
 -- ---- the stop states are those with an empty row

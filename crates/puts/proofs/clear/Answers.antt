@@ -1,7 +1,6 @@
 -- `clear` meets its contract: from the place up to i stand zeros, and after it what was there. The measure is what is left.
 -- Assumes nothing.
 use mathlib.Core.Path.{refl, ap, ◌∙◌}
-use Prim.Native.Nat.{◌-◌}
 use native.Mathlib.Nat.{le_refl}
 use lib.ListN.{set, length-set}
 use Rattle.puts.proofs.Puts.{clear_none, clear_more, clear_all}

@@ -1,7 +1,7 @@
 -- `put_word` meets its contract: after i turns the first i bytes are written (`word_more`). The measure is what is left of the word.
 -- Assumes nothing.
 use mathlib.Core.Path.{refl, ◌∙◌}
-use Prim.Native.Nat.{◌-◌, zero-le}
+use Prim.Native.Nat.{zero-le}
 use Rattle.puts.proofs.Puts.{put_none, word_more, word_whole}
 use native.Mathlib.Omega.{arith}
 use Rattle.puts.proofs.put_word.Goals as goal

@@ -1,7 +1,7 @@
 -- `stop_count` meets its contract: each turn finds the row of the next state, and counts one stop state more if it is empty (`stops_next`). The
 -- measure is the states left. Assumes nothing.
 use mathlib.Core.Path.{◌≡◌}
-use Prim.Native.Nat.{◌+◌, ◌-◌}
+use Prim.Native.Nat.{◌+◌}
 use native.Mathlib.Omega.{arith}
 use borrow.Author.Rules.{rules}
 use Rattle.table.specs.Row.{Row}

@@ -1,7 +1,7 @@
 -- `bytes::alike` meets its contract: as far as the bytes were the same, the two are alike exactly if what is left is (`same_step`).
 -- The measure is what is left. Assumes nothing.
 use mathlib.Core.Path.{refl, sym, ◌∙◌}
-use Prim.Native.Nat.{◌-◌, zero-le}
+use Prim.Native.Nat.{zero-le}
 use Rattle.hoa_tokens.proofs.Runs.{same_more, same_other, same_end, same_apart}
 use native.Mathlib.Omega.{arith}
 use Rattle.hoa_tokens.proofs.bytes.alike.Goals as goal

@@ -1,7 +1,6 @@
 -- `bytes::run_end` meets its contract: a byte of the class leaves the run's end where it is (`run_more`), any other is the end (`run_stop`).
 -- The measure is what is left of the text. Assumes nothing.
 use mathlib.Core.Path.{sym, ◌∙◌}
-use Prim.Native.Nat.{◌-◌}
 use borrow.Author.Tests.{not-true, not-false}
 use Rattle.hoa_tokens.specs.inner.Reads.{in_class}
 use Rattle.hoa_tokens.proofs.Runs.{going, run_more, run_stop, run_out}

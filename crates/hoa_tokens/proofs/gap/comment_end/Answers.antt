@@ -1,7 +1,6 @@
 -- `gap::comment_end` meets its contract: the gap from `at` on is the gap from i on with `depth` comments open, and the comment ends where none is.
 -- The measure is what is left of the text. Assumes nothing.
 use mathlib.Core.Path.{◌≡◌, refl, ◌∙◌}
-use Prim.Native.Nat.{◌-◌}
 use Rattle.hoa_tokens.proofs.Gaps.{comment_lost}
 use native.Mathlib.Omega.{arith}
 use Rattle.hoa_tokens.proofs.gap.comment_end.Goals as goal

@@ -1,6 +1,6 @@
 -- `gap::skip` meets its contract: what is passed leaves the gap's end where it is. The measure is what is left of the text. Assumes nothing.
 use mathlib.Core.Path.{refl, ◌∙◌}
-use Prim.Native.Nat.{◌-◌, ◌<◌}
+use Prim.Native.Nat.{◌<◌}
 use Rattle.hoa_tokens.proofs.Gaps.{gap_ends}
 use native.Mathlib.Omega.{arith}
 use Rattle.hoa_tokens.proofs.gap.skip.Goals as goal

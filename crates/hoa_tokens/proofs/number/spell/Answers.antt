@@ -1,7 +1,6 @@
 -- `number::spell` meets its contract: the digits passed spell the value so far, which the next digit takes on (`spelt_more`); once it is too large
 -- it stays so (`too_large`). The measure is what is left of the digits. Assumes nothing.
 use mathlib.Core.Path.{refl, sym}
-use Prim.Native.Nat.{◌-◌}
 use Rattle.hoa_tokens.proofs.Numbers.{spelt_more, spelt_end, too_large, small_enough}
 use native.Mathlib.Omega.{arith}
 use Rattle.hoa_tokens.proofs.number.spell.Goals as goal

@@ -1,6 +1,5 @@
 -- `string::quote_from` meets its contract: what is passed over leaves the closing quote where it is. The measure is what is left of the text. Assumes nothing.
 use mathlib.Core.Path.{refl, ◌∙◌}
-use Prim.Native.Nat.{◌-◌}
 use Rattle.hoa_tokens.proofs.Strings.{quote_here, quote_out}
 use native.Mathlib.Omega.{arith}
 use Rattle.hoa_tokens.proofs.string.quote_from.Goals as goal

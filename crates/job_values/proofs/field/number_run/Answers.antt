@@ -2,7 +2,6 @@
 -- The measure is what is left of the line. Assumes nothing.
 use mathlib.Core.Path.{◌≡◌, sym, ap, ◌∙◌}
 use mathlib.Core.Option.{some}
-use Prim.Native.Nat.{◌-◌}
 use lib.ListN.{get_or}
 use Rattle.digits.specs.Digit.{digit}
 use Rattle.digits.specs.Given.{digit_given}

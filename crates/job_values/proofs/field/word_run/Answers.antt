@@ -1,5 +1,4 @@
 -- `field::word_run` meets its contract: the bytes passed agree. The measure is what is left of the word. Assumes nothing.
-use Prim.Native.Nat.{◌-◌}
 use Rattle.job_values.proofs.Words.{agrees_none, agrees_end, agrees_done, agrees_stop, agrees_more}
 use Rattle.job_values.proofs.field.word_run.Goals as goal
 

@@ -1,7 +1,7 @@
 -- `number::decimal` meets its contract: the digits passed spell the value so far, which the next digit takes on (`spelt_more`); once it is too
 -- large it stays so (`too_large`). The measure is what is left of the bytes. Assumes nothing.
 use mathlib.Core.Path.{◌≡◌, refl, sym, ap, ◌∙◌}
-use Prim.Native.Nat.{ℕ, ◌+◌, ◌*◌, ◌-◌, zero-le}
+use Prim.Native.Nat.{ℕ, ◌+◌, ◌*◌, zero-le}
 use mathlib.Core.Option.{some, none}
 use lib.ListN.{get_or, drop}
 use borrow.Author.Tests.{le-leb}

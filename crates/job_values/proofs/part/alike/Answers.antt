@@ -1,7 +1,7 @@
 -- `part::alike` meets its contract: as far as the bytes were the same, the two are alike exactly if what is left is (`same_step`).
 -- The measure is what is left. Assumes nothing.
 use mathlib.Core.Path.{refl, sym, ◌∙◌}
-use Prim.Native.Nat.{◌-◌, zero-le}
+use Prim.Native.Nat.{zero-le}
 use Rattle.job_values.proofs.Cut.{same_more, same_other, same_end, same_length}
 use native.Mathlib.Omega.{arith}
 use Rattle.job_values.proofs.part.alike.Goals as goal

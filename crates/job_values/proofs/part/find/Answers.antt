@@ -1,7 +1,6 @@
 -- `part::find` meets its contract: while the byte is not at i, the number of bytes before it falls by one (`ahead_miss`).
 -- The measure is what is left of the text. Assumes nothing.
 use mathlib.Core.Path.{refl, ◌∙◌}
-use Prim.Native.Nat.{◌-◌}
 use native.Mathlib.Nat.{le_refl}
 use Rattle.job_values.proofs.Cut.{ahead_hit, ahead_miss, ahead_end, reach}
 use native.Mathlib.Omega.{arith}

@@ -1,7 +1,6 @@
 -- `condition::dealt_before` meets its contract. The invariant: the sum is what is dealt out before pair i, and each pair adds at most
 -- 2 ^ 32, so that it fits. The measure is the pairs left. Assumes nothing.
 use mathlib.Core.Path.{◌≡◌, refl, ap, ◌∙◌}
-use Prim.Native.Nat.{◌-◌}
 use native.Mathlib.Omega.{arith}
 use lib.ListN.{get_or}
 use mir.Syntax.{w32}

@@ -1,7 +1,6 @@
 -- `condition::some_need` meets its contract. The invariant: the needs from p on hold one that is not 0 exactly if those from i on do.
 -- The measure is what is left of the eight. Assumes nothing.
 use mathlib.Core.Path.{◌≡◌, refl, sym, ◌∙◌}
-use Prim.Native.Nat.{◌-◌}
 use native.Mathlib.Omega.{arith}
 use lib.ListN.{length}
 use borrow.Author.Rules.{rules}

@@ -1,7 +1,6 @@
 -- `edges::first_fault` meets its contract. The invariant: the edges below e are passed (`Passed`). Each test is one of the rows (`Faults`). The measure is
 -- the edges left. Assumes nothing.
 use mathlib.Core.Path.{◌∙◌}
-use Prim.Native.Nat.{◌-◌}
 use native.Mathlib.Omega.{arith}
 use Rattle.table.proofs.Faults.{none_passed, all_passed, five_leaves, five_arrives, six, seven, one_passed, uncovered, covered}
 use Rattle.table.proofs.edges.first_fault.Goals as goal

@@ -1,7 +1,6 @@
 -- `edges::look_over` meets its contract: each turn takes one edge more into what the look shows (`shows_more`). What is counted is at most as much as the
 -- edges passed, so that the counts fit. The measure is the edges left. Assumes nothing.
 use mathlib.Core.Path.{◌≡◌}
-use Prim.Native.Nat.{◌-◌}
 use native.Mathlib.Numerals.{add-one}
 use native.Mathlib.Omega.{arith}
 use lib.ListN.{length}

@@ -1,7 +1,7 @@
 -- `row::run` meets its contract. The invariant: what is left of the run is the run of the part from i on, so at the first other
 -- state (`run_none`), and at the part's end (`run_over`), i is the whole run. The measure is what is left of the part. Assumes nothing.
 use mathlib.Core.Path.{sym, ap, ◌∙◌}
-use Prim.Native.Nat.{ℕ, ◌+◌, ◌-◌}
+use Prim.Native.Nat.{ℕ, ◌+◌}
 use native.Mathlib.Nat.{add-zero}
 use native.Mathlib.Numerals.{add-one}
 use native.Mathlib.Omega.{arith}

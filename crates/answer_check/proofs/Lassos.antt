@@ -13,7 +13,6 @@ use Rattle.table.specs.Table.{Walk, marks_of}
 use Rattle.answer_check.specs.declared.Fault.TheVariants as fault
 use Rattle.answer_check.specs.declared.Fault.{Fault}
 use Rattle.answer_check.specs.declared.Checked.TheVariants as checked
-use Rattle.answer_check.specs.declared.walk.Walked.TheVariants as walked
 use Rattle.answer_check.specs.declared.walk.Walked.{Walked}
 use Rattle.answer_check.specs.declared.walk.Place.{Place}
 use Rattle.answer_check.specs.declared.lasso.Turned.TheVariants as turned

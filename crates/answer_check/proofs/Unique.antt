@@ -13,7 +13,7 @@ use Rattle.table.specs.declared.Acceptance.TheVariants.{Buchi, Streett, Rabin}
 use Rattle.table.specs.declared.Finding.{Finding}
 use Rattle.table.specs.declared.Finding.TheVariants.{Sound, Refused}
 use Rattle.table.specs.Table.{Table, Step, Walk, Lasso, marks_of}
-use Rattle.table.specs.Condition.{Accepts, Accepted}
+use Rattle.table.specs.Condition.{Accepts}
 use Rattle.job_text.specs.Job.{Job, Outcome, job, fault as faulty, read_job}
 use Rattle.job_text.specs.Asked.{job_table, first_cause}
 use Rattle.job_text.proofs.Promises.{one_column}

@@ -295,7 +295,8 @@ dealt_pairs : (ns zs : List ℕ) → dealt (reverse ns ++ zs) (length ns) ≡ de
 dealt_pairs [] zs = refl
 dealt_pairs (n ∷ ns) zs =
     let e : reverse (n ∷ ns) ++ zs ≡ reverse ns ++ (n ∷ zs) = ap (λ (xs : List ℕ). xs ++ zs) (reverse-cons n ns) ∙ append_assoc (reverse ns) (n ∷ []) zs in
-    rw e (omega (arith, dealt_pairs ns (n ∷ zs), get_or_at (reverse ns) n zs 0 (length ns) (length-reverse ns)))
+    ap (λ (xs : List ℕ). dealt xs (suc (length ns))) e
+    ∙ omega (arith, dealt_pairs ns (n ∷ zs), get_or_at (reverse ns) n zs 0 (length ns) (length-reverse ns))
 
 none_needed : (k : ℕ) → some_need (replicate k 0) ≡ false
 none_needed zero = refl

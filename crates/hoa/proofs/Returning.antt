@@ -20,7 +20,7 @@ use Rattle.hoa_rows.specs.declared.RowsRead.TheVariants as rows_read
 use Rattle.hoa_entry.specs.Rows as spec
 use Rattle.hoa_rows.specs.Lent.{rows_end, edges_of, fits, told, cells_of, RowsInto}
 use Rattle.hoa.specs.declared.Hoa.{Hoa}
-use Rattle.hoa.specs.declared.HoaFinding.TheVariants.{Read, Refused}
+use Rattle.hoa.specs.declared.HoaFinding.TheVariants.{Read}
 use Rattle.hoa.specs.Reading.{limits_of, job_of, rows_say, head_says, read_hoa}
 use Rattle.hoa.specs.Returned.{refused_hoa, read_of, returned, cells_by, ReadInto}
 use Rattle.hoa.specs.inner.{RowsReadInto}

@@ -16,7 +16,6 @@ use Rattle.hoa_label.specs.Labels as label
 use Rattle.hoa_label.specs.Labels.{LabelState, LabelStep, LabelEnd, label_step, label_run, label_next}
 use Rattle.hoa_entry.specs.declared.Limits.{Limits}
 use Rattle.hoa_entry.specs.declared.Entry.{Entry}
-use Rattle.hoa_entry.specs.declared.Entry.TheVariants as entry_is
 use Rattle.hoa_entry.specs.Sig.{sig_step}
 use Rattle.hoa_entry.specs.Rows as spec
 use Rattle.hoa_entry.specs.Rows.{Rows, entries, row_marks, edge_marks, in_label}

@@ -19,7 +19,6 @@ use Rattle.hoa_step.specs.Machine.{go, done, wrong}
 use Rattle.hoa_entry.specs.declared.Entry.{Entry}
 use Rattle.hoa_entry.specs.declared.Entry.TheVariants as entry_is
 use Rattle.hoa_entry.specs.declared.sig.SigTurn.{SigTurn}
-use Rattle.hoa_entry.specs.declared.sig.SigTurn.TheVariants as sig_turn
 use Rattle.hoa_entry.specs.Sig.{with_mark, sig_sign, sig_step}
 use Rattle.hoa_entry.specs.Rows.{entry_header, entry_sign, entry_of}
 use Rattle.hoa_entry.specs.inner.Reads.{sig_step_of}

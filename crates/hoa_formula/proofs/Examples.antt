@@ -1,7 +1,6 @@
 -- The rules' own examples of formulas (docs/RULES.md, "The Hanoi format"), computed from the definitions. Assumes nothing.
 use mathlib.Core.Path.{◌≡◌, refl}
 use mathlib.Core.List.{List, [], ◌∷◌}
-use mathlib.Core.Option.{some}
 use Prim.Native.Nat.{ℕ}
 use Rattle.table.specs.declared.Acceptance.TheVariants as acceptance
 use Rattle.hoa_tokens.specs.Bytes.{bytes, same, is_digit, is_capital, is_letter, is_name, is_blank, run}

@@ -13,7 +13,7 @@ use Rattle.table.specs.declared.Acceptance.{Acceptance}
 use Rattle.table.specs.declared.Acceptance.TheVariants as acceptance
 use Rattle.hoa_tokens.specs.declared.Word.{Word}
 use Rattle.hoa_tokens.specs.declared.Word.TheVariants as word_is
-use Rattle.hoa_tokens.specs.Token.{Token, header, body}
+use Rattle.hoa_tokens.specs.Token.{Token}
 use Rattle.hoa_formula.specs.Cond.{Cond, cond_text}
 use Rattle.hoa_standard.specs.Standard.{
   FormulaMeaning,
@@ -284,8 +284,8 @@ begins_eight c = (zero-le, refl)
 -- the token that stands behind a formula
 behind_piece : (t : Token) → Opens t → formula.piece_of t ≡ piece_is.Foreign
 unfolding formula.piece_of
-behind_piece (header k) (opens_item _ e) = refl
-behind_piece body opens_body = refl
+behind_piece _ (opens_item _ e) = refl
+behind_piece _ opens_body = refl
 
 module _ (c : ℕ) (h : Head) where
   -- one token: on, or the limit

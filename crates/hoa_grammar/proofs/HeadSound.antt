@@ -89,7 +89,6 @@ use Rattle.hoa_grammar.proofs.Takes.{
   takes_none,
   takes_more,
 }
-use Rattle.hoa_grammar.proofs.Takes as takes
 use Rattle.hoa_grammar.proofs.Names.{ne_same}
 use Rattle.hoa_grammar.proofs.Leads.{Leads, ends, steps, FormulaSound}
 use Rattle.hoa_grammar.proofs.Heads.{AllLimits, New}
@@ -506,8 +505,8 @@ module _ (final : Head) (left : List Token) (formula_sound : FormulaSound) where
 
   as_words : (es : List Extra) (rest : List Token) → Passes false false es → AsWords es rest
   unfolding extras_text words_text
-  as_words [] rest pass_none = record { ws = []; text = refl }
-  as_words (extra_word w ∷ es) rest (pass_word _ p) =
+  as_words _ rest pass_none = record { ws = []; text = refl }
+  as_words _ rest (pass_word {es = es} w p) =
       let r = as_words es rest p in
       record { ws = w ∷ r.ws; text = ap (λ (x : List Token). word w ∷ x) r.text }
 
@@ -517,11 +516,11 @@ module _ (final : Head) (left : List Token) (formula_sound : FormulaSound) where
 
   as_hints : (es : List Extra) (rest : List Token) → Passes true false es → AsHints es rest
   unfolding extras_text hints_text
-  as_hints [] rest pass_none = record { hs = []; text = refl }
-  as_hints (extra_word w ∷ es) rest (pass_word _ p) =
+  as_hints _ rest pass_none = record { hs = []; text = refl }
+  as_hints _ rest (pass_word {es = es} w p) =
       let r = as_hints es rest p in
       record { hs = hint_word w ∷ r.hs; text = ap (λ (x : List Token). word w ∷ x) r.text }
-  as_hints (extra_int i ∷ es) rest (pass_int _ p) =
+  as_hints _ rest (pass_int {es = es} i p) =
       let r = as_hints es rest p in
       record { hs = hint_int i ∷ r.hs; text = ap (λ (x : List Token). int i ∷ x) r.text }
 

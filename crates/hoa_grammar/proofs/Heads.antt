@@ -10,28 +10,14 @@ use lib.Dec.{ltb, leb}
 use lib.ListN.{length}
 use Rattle.hoa_tokens.specs.declared.Word.{Word}
 use Rattle.hoa_tokens.specs.declared.Header.TheVariants as header_is
-use Rattle.hoa_tokens.specs.declared.Sign.TheVariants as sign_is
-use Rattle.hoa_tokens.specs.Token.{Token, header, body}
+use Rattle.hoa_tokens.specs.Token.{Token, body}
 use Rattle.job_text.specs.Job.{most_job_states}
 use Rattle.hoa_formula.specs.Cond.{cond_text}
 use Rattle.hoa_standard.specs.Formulas.{formula_begin}
 use Rattle.hoa_step.specs.Machine.{wants_int, wants_text}
 use Rattle.hoa_value.specs.declared.Head.{Head}
-use Rattle.hoa_value.specs.declared.Piece.TheVariants as piece_is
 use Rattle.hoa_value.specs.Head.{most_props, most_marks, with_states, with_start, with_props, with_acc_name, with_tool}
-use Rattle.hoa_value.specs.Heading.{
-  items,
-  start_more,
-  names,
-  in_formula,
-  acc_name,
-  tool_more,
-  hints,
-  piece_of,
-  head_step,
-  on_names,
-  name_came,
-}
+use Rattle.hoa_value.specs.Heading.{items, start_more, names, in_formula, tool_more, hints, piece_of, head_step, on_names, name_came}
 use Rattle.hoa_grammar.specs.Doc as doc
 use Rattle.hoa_grammar.specs.Doc.{Hint, hint_word, hint_int, Extra, extra_word, extra_int, extra_text, Item, item_text, items_text, hints_text, extras_text, words_text, strings_text, perhaps_text}
 use Rattle.hoa_grammar.specs.Subset.{Each, each_none, each_more, Differ, differ_none, differ_more}
@@ -46,24 +32,24 @@ use Rattle.hoa_grammar.proofs.Takes.{Takes, takes_states, takes_start, takes_pro
 
 behind_start : (h : Head) (t : Token) → Opens t → head_step (start_more h) t ≡ head_step (items h) t
 unfolding head_step piece_of
-behind_start h (header k) (opens_item _ e) = rw e refl
-behind_start h body opens_body = refl
+behind_start h _ (opens_item _ e) = rw e refl
+behind_start h _ opens_body = refl
 
 behind_hints : (ints texts : Bool) (h : Head) (t : Token) → Opens t → head_step (hints ints texts h) t ≡ head_step (items h) t
 unfolding head_step piece_of
-behind_hints ints texts h (header k) (opens_item _ e) = rw e refl
-behind_hints ints texts h body opens_body = refl
+behind_hints ints texts h _ (opens_item _ e) = rw e refl
+behind_hints ints texts h _ opens_body = refl
 
 behind_tool : (h : Head) (t : Token) → Opens t → head_step (tool_more h) t ≡ head_step (items h) t
 unfolding head_step piece_of
-behind_tool h (header k) (opens_item _ e) = rw e refl
-behind_tool h body opens_body = refl
+behind_tool h _ (opens_item _ e) = rw e refl
+behind_tool h _ opens_body = refl
 
 behind_names_lem : (a : ℕ) (ns : List (List ℕ)) (h : Head) (t : Token) → Opens t → ltb (length ns) a ≡ false
     → head_step (names a ns h) t ≡ head_step (items (with_props a h)) t
 unfolding head_step on_names
-behind_names_lem a ns h (header k) (opens_item _ e) l = rw l refl
-behind_names_lem a ns h body opens_body l = rw l refl
+behind_names_lem a ns h _ (opens_item _ e) l = rw l refl
+behind_names_lem a ns h _ opens_body l = rw l refl
 
 -- ---- what is passed over
 

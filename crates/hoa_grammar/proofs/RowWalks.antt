@@ -23,7 +23,7 @@ use Rattle.hoa_label.specs.Labels.{Frame, LabelState, wants, Has, label_begin, l
 use Rattle.hoa_label.proofs.Sets.{label_set}
 use Rattle.hoa_label.proofs.Walks.{closed_going, faulty_going, closed_faulty, faulty_inj, closed_set, closed_rest}
 use Rattle.hoa_label.proofs.Complete as label_complete
-use Rattle.hoa_step.specs.Machine.{go, wrong, wants_int}
+use Rattle.hoa_step.specs.Machine.{go, wants_int}
 use Rattle.hoa_step.specs.Given.{not_below}
 use Rattle.hoa_entry.specs.declared.Limits.{Limits}
 use Rattle.hoa_entry.specs.Sig.{sig_step, with_mark}
@@ -242,21 +242,21 @@ module _ (l : Limits) where
 
     behind_sig : (t : Token) → Enters t → row_step l (row_sig b) t ≡ row_step l (entries b) t
     unfolding row_step entry_of
-    behind_sig (header header_is.State) enters_row = refl
-    behind_sig (sign sign_is.BracketLeft) enters_edge = refl
-    behind_sig end enters_end = refl
+    behind_sig _ enters_row = refl
+    behind_sig _ enters_edge = refl
+    behind_sig _ enters_end = refl
 
     behind_name : (t : Token) → Enters t → row_step l (row_name b) t ≡ row_step l (row_sig b) t
     unfolding row_step entry_of
-    behind_name (header header_is.State) enters_row = refl
-    behind_name (sign sign_is.BracketLeft) enters_edge = refl
-    behind_name end enters_end = refl
+    behind_name _ enters_row = refl
+    behind_name _ enters_edge = refl
+    behind_name _ enters_end = refl
 
     behind_target : (x to : ℕ) (t : Token) → Enters t → row_step l (target_more x to b) t ≡ row_step l (entries (with_edge x to b.sig b)) t
     unfolding row_step entry_of
-    behind_target x to (header header_is.State) enters_row = refl
-    behind_target x to (sign sign_is.BracketLeft) enters_edge = refl
-    behind_target x to end enters_end = refl
+    behind_target x to _ enters_row = refl
+    behind_target x to _ enters_edge = refl
+    behind_target x to _ enters_end = refl
 
   -- the same step, and so the same walk
   same_step : (s u : RowState) (t : Token) (rest : List Token) → row_step l s t ≡ row_step l u t → onwards (t ∷ rest) s ≡ onwards (t ∷ rest) u

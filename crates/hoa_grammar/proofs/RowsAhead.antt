@@ -145,10 +145,10 @@ module _ (l : Limits) (n : ℕ) (six : l.props ≤ 6) (below : (q : ℕ) → q <
     small : b.largest < n → last.largest < n
     few : n ≤ most_job_states → Each (λ e. LabelLimit e.label) es → length b.edges + length xs ≤ most_job_edges → EdgesLimit l takes
 
-  edges_take : (b : Rows) (q m : ℕ) (es : List EdgeTree) (xs : List Edge) → last_row b.seen ≡ q → b.sig ≡ m
+  edges_take : (q m : ℕ) (b : Rows) (es : List EdgeTree) (xs : List Edge) → last_row b.seen ≡ q → b.sig ≡ m
       → EdgesSay n l.props l.marks q m es xs → EdgesTaken b es xs
   unfolding EdgesLimit
-  edges_take b q m _ _ row marks no_edges =
+  edges_take q m b _ _ row marks no_edges =
       record {
         last = b;
         takes = takes_no_edge refl;
@@ -157,9 +157,9 @@ module _ (l : Limits) (n : ℕ) (six : l.props ≤ 6) (below : (q : ℕ) → q <
         small = λ s. s;
         few = λ _ _ _. tt;
       }
-  edges_take b q m _ _ row marks (more_edges {e = e} {es = es} {xs = xs} {ys = ys} s ss) =
+  edges_take q m b _ _ row marks (more_edges {e = e} {es = es} {xs = xs} {ys = ys} s ss) =
       let f = edge_takes b q m e xs row marks s in
-      let r = edges_take f.last q m es ys (ap last_row f.seen_are ∙ row) (f.sig_is ∙ marks) ss in
+      let r = edges_take q m f.last es ys (ap last_row f.seen_are ∙ row) (f.sig_is ∙ marks) ss in
       let n1 : length f.last.edges ≡ length b.edges + length xs = ap length f.edges_are ∙ length-append b.edges xs in
       record {
         last = r.last;
@@ -208,7 +208,7 @@ module _ (l : Limits) (n : ℕ) (six : l.props ≤ 6) (below : (q : ℕ) → q <
       }
   rows_take b _ _ room new differ (more_rows {r = r} {rs = rs} {xs = xs} {ys = ys} s ss) =
       let b0 = with_sig (sig_marks 0 r.sig) (with_row r.number b) in
-      let f = edges_take b0 r.number (sig_marks 0 r.sig) r.edges xs refl refl s.edges_say in
+      let f = edges_take r.number (sig_marks 0 r.sig) b0 r.edges xs refl refl s.edges_say in
       let fit : TakesRow l b r f.last =
       record {
         room = room (length b.seen) (omega arith);

@@ -14,7 +14,7 @@ use Rattle.job_text.specs.Value.{Edge}
 use Rattle.job_text.specs.Job.{most_job_states, most_job_edges}
 use Rattle.job_text.proofs.Bodies.{column_more}
 use Rattle.hoa_kept.specs.declared.held.RowsSoFar.{RowsSoFar}
-use Rattle.hoa_entry.specs.Rows.{Rows, no_rows, last_row, came, kept, with_row, with_sig, with_edge}
+use Rattle.hoa_entry.specs.Rows.{Rows, no_rows, last_row, came, with_row, with_sig, with_edge}
 use Rattle.hoa_entry.specs.inner.Reads.{Listed}
 use Rattle.hoa_kept.specs.Sorted.{leaving}
 use Rattle.hoa_kept.specs.inner.Copied.{first_of, end_of}

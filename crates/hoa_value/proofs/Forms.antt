@@ -15,7 +15,7 @@ use Rattle.hoa_formula.specs.declared.FormulaRead.{FormulaRead}
 use Rattle.hoa_formula.specs.declared.FormulaFound.{FormulaFound}
 use Rattle.hoa_formula.specs.declared.FormulaFound.TheVariants as found_is
 use Rattle.hoa_formula.specs.Reading.{found_says, found_place, FormulaAt}
-use Rattle.hoa_step.specs.Machine.{go, wrong, End, wrong_at, cut, end_by, run, wants_int}
+use Rattle.hoa_step.specs.Machine.{End, wrong_at, cut, end_by, run, wants_int}
 use Rattle.hoa_step.specs.Wanted.{Next, Faulty, int_fault}
 use Rattle.hoa_step.proofs.Runs.{first_goes, first_wrong, int_wrong, faulty_within}
 use Rattle.hoa_value.specs.declared.Head.{Head}

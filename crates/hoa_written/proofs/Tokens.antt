@@ -1,7 +1,7 @@
 -- The tokens of what is written: piece by piece as it is written, the text spells `written_tokens`. Assumes nothing.
-use mathlib.Core.Path.{◌≡◌, refl, sym, ap, ◌∙◌}
+use mathlib.Core.Path.{◌≡◌, refl, sym, ap, subst, ◌∙◌}
 use mathlib.Core.Bool.{Bool, true, false, cond}
-use mathlib.Core.List.{List, [], ◌∷◌, ◌++◌, append-nil}
+use mathlib.Core.List.{List, [], ◌∷◌, ◌++◌, map, append-nil}
 use Prim.Native.Nat.{ℕ, zero, suc, ◌+◌, ◌*◌, ◌/◌, ◌%◌, ◌^◌, ◌≤◌, ◌<◌}
 use native.Mathlib.Nat.{add-zero, zero-add, pow-suc, mul_assoc, div-add-mod, mul-mod_right, mul-div_right}
 use native.Mathlib.Omega.{arith}
@@ -24,7 +24,7 @@ use Rattle.hoa_tokens.specs.declared.Header.TheVariants as header_is
 use Rattle.hoa_tokens.specs.declared.Sign.TheVariants as sign_is
 use Rattle.hoa_tokens.specs.Bytes.{bytes}
 use Rattle.hoa_tokens.specs.Token.{Token, int, word, header, sign, finish, front}
-use Rattle.hoa_tokens.specs.Stream.{gap_of, first, some, tokens_at}
+use Rattle.hoa_tokens.specs.Stream.{Placed, gap_of, first, some, tokens_at, unless_finished}
 use Rattle.puts.specs.Put.{decimal_in, decimal, joined}
 use Rattle.hoa_written.specs.Written.{line, further_infs, buchi_text, streett_pair, streett_text, rabin_pair, rabin_text, formula}
 use Rattle.hoa_written.specs.Written.{mark_text, marks_text, sig_text, edge_text, row_text, rows_text, head_text, acceptance_text, hoa_text}
@@ -217,7 +217,11 @@ acceptance_spells c needs h =
 -- behind the last byte
 at_end : (text : List ℕ) → tokens text (length text) ≡ finish ∷ []
 unfolding tokens_at some first gap_of front
-at_end text = rw (drop-length text)
+at_end text =
+    subst
+    (λ (bs : List ℕ).
+    map (λ (p : Placed). p.token) (let p = first (length text) bs in p ∷ unless_finished p.token (some (length text) text p.next)) ≡ finish ∷ [])
+    (sym (drop-length text)) refl
 
 -- the tokens of what is written, for every table that is written
 pub written_tokens_lem : (n start : ℕ) (from to marks : List ℕ) (c : Acceptance) (needs : List ℕ) → Fit (lent n start from to marks) c needs → n ≤ most_written

@@ -3,78 +3,61 @@
 #![tactic(auto)]
 
 use job_text::reader::read;
-use libc::STDOUT_FILENO;
-use std::num::wrapping_add_u32;
+use std::io;
+use std::io::Read;
 use table::{Acceptance, Finding};
+use text_input::{Input, read_input};
 
-fn print(text: &[u8]) {
-    io::write_all(STDOUT_FILENO, text);
-}
+// The longest text that is stored.
+const MOST_STORED: usize = 24576;
 
-fn print_number(label: &[u8], n: u32) {
-    print(label);
-    io::print_decimal(STDOUT_FILENO, n as u64);
-}
-
-fn print_condition(condition: Acceptance) {
+fn print_condition(rt: &impl Print, condition: Acceptance) -> io::Result<()> {
     match condition {
-        Acceptance::Buchi(k) => print_number(b" buchi ", k),
-        Acceptance::Streett(p) => print_number(b" streett ", p),
-        Acceptance::Rabin(p) => print_number(b" rabin ", p),
+        Acceptance::Buchi(k) => print!(rt; " buchi {k}"),
+        Acceptance::Streett(p) => print!(rt; " streett {p}"),
+        Acceptance::Rabin(p) => print!(rt; " rabin {p}"),
     }
 }
 
-fn print_needs(needs: [u32; 8]) {
-    print_number(b" ", needs[0]);
-    let mut i: usize = 1;
-    while i < 8 {
-        print_number(b",", needs[i]);
-        i += 1;
+fn print_needs(rt: &impl Print, needs: [u32; 8]) -> io::Result<()> {
+    print!(rt; " {}", needs[0])?;
+    for need in &needs[1..] {
+        print!(rt; ",{need}")?;
     }
+    Ok(())
 }
 
 // 31 times h and one cell more, as far as a word goes.
 fn with_cell(h: u32, cell: u32) -> u32 {
-    wrapping_add_u32((h as u64 * 31 % 4294967296) as u32, cell)
+    h.wrapping_mul(31).wrapping_add(cell)
 }
 
 // A sum over the cells of all edges, so that a line tells whether each was read right.
 fn checksum(from: [u32; 512], to: [u32; 512], marks: [u32; 512], m: usize) -> u32 {
     let mut h: u32 = 0;
-    let mut e: usize = 0;
-    while e < 512 {
+    for e in 0..512 {
         if m <= e {
             return h;
         }
         h = with_cell(with_cell(with_cell(h, from[e]), to[e]), marks[e]);
-        e += 1;
     }
     h
 }
 
 // What a text says.
-fn print_reading(text: &[u8]) {
+fn print_reading(rt: &impl Print, text: &[u8]) -> io::Result<()> {
     let mut from = [0u32; 512];
     let mut to = [0u32; 512];
     let mut marks = [0u32; 512];
     let job = read(text, &mut from, &mut to, &mut marks);
-    let finding = job.finding;
-    if let Finding::Refused { number, place } = finding {
-        print_number(b"refused ", number);
-        print_number(b" ", place);
-        print_number(b" ", job.column);
-        print(b"\n");
-        return;
+    if let Finding::Refused { number, place } = job.finding {
+        return println!(rt; "refused {number} {place} {}", job.column);
     }
-    print_number(b"job ", job.states);
-    print_number(b" ", job.start);
-    let condition = job.condition;
-    print_condition(condition);
-    let needs = job.needs;
-    print_needs(needs);
-    print_number(b" ", job.edges);
-    print_number(b" ", checksum(from, to, marks, job.edges as usize));
-    print(b"\n");
+    print!(rt; "job {} {}", job.states, job.start)?;
+    print_condition(rt, job.condition)?;
+    print_needs(rt, job.needs)?;
+    let edges = job.edges;
+    println!(rt; " {edges} {}", checksum(from, to, marks, edges as usize))
 }
 
 fn wide(byte: u8) -> usize {
@@ -88,53 +71,51 @@ enum Next {
     End,
 }
 
-fn next_length() -> Next {
+fn next_length<R: Read>(input: &mut R) -> io::Result<Next> {
     let mut byte = [0u8; 1];
     let mut length: usize = 0;
-    let mut i: usize = 0;
-    while i < 7 {
-        let got = io::read_full(0, &mut byte);
-        if got == 0 {
-            return Next::End;
+    for _ in 0..7 {
+        if input.read(&mut byte)? == 0 {
+            return Ok(Next::End);
         }
         if byte[0] == b'\n' {
-            return Next::Length(length);
+            return Ok(Next::Length(length));
         }
         length = (length * 10 + wide(byte[0]) % 16) % 10000000;
-        i += 1;
     }
-    Next::End
+    Ok(Next::End)
 }
 
 // The next bytes of the input, as many as `length` says, at the front of the buffer; how many there were.
-fn fill(text: &mut [u8], length: usize) -> usize {
+fn fill<R: Read>(input: &mut R, text: &mut [u8], length: usize) -> io::Result<usize> {
     if text.len() < length {
-        return 0;
+        return Ok(0);
     }
-    io::read_full(0, &mut text[0..length])
+    match read_input(input, &mut text[0..length]) {
+        Input::Bytes { count } => Ok(count),
+        Input::Failed { reason } => Err(reason),
+    }
 }
 
 // One text.
-fn one_text(length: usize) {
-    let mut text = [0u8; 24576];
-    let got = fill(&mut text, length);
+fn one_text(rt: &HostRuntime, length: usize) -> io::Result<()> {
+    let mut text = [0u8; MOST_STORED];
+    let got = fill(&mut rt.stdin(), &mut text, length)?;
     if got != length {
-        print(b"cut off\n");
-        return;
+        return println!(rt; "cut off");
     }
-    if length <= 24576 {
-        print_reading(&text[0..length]);
+    if length <= MOST_STORED {
+        print_reading(rt, &text[0..length])?;
     }
+    Ok(())
 }
 
-fn main() {
-    let mut texts: u32 = 0;
-    while texts < 100000 {
-        let next = next_length();
-        let Next::Length(length) = next else {
-            return;
+fn main(rt: HostRuntime) -> io::Result<()> {
+    for _ in 0..100000 {
+        let Next::Length(length) = next_length(&mut rt.stdin())? else {
+            return Ok(());
         };
-        one_text(length);
-        texts += 1;
+        one_text(&rt, length)?;
     }
+    Ok(())
 }

@@ -1,6 +1,5 @@
 -- `all_steps` meets its contract: the fields from `at` on decide (`Decides`). The measure is what is left of the bytes. Assumes nothing.
 use mathlib.Core.Path.{sym, ◌∙◌}
-use Prim.Native.Nat.{◌-◌}
 use borrow.Author.Tests.{not-true, not-false}
 use Rattle.answer_form.proofs.Forms.{decides_all, decides_next, decides_no, decides_yes}
 use native.Mathlib.Omega.{arith}

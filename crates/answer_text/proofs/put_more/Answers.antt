@@ -1,7 +1,7 @@
 -- `put_more` meets its contract: after i turns the first i edges are written, each with its comma (`further_more`), in at most eleven
 -- bytes each. The measure is what is left of the cells. Assumes nothing.
 use mathlib.Core.Path.{refl, ◌∙◌}
-use Prim.Native.Nat.{◌-◌, zero-le}
+use Prim.Native.Nat.{zero-le}
 use Rattle.puts.proofs.Puts.{put_both}
 use Rattle.answer_text.proofs.Prints.{further_none, further_more, further_whole}
 use native.Mathlib.Omega.{arith}

@@ -3,4 +3,4 @@ use Rattle.check_text.proofs.Replies.{replied_within}
 use Rattle.check_answer.proofs.answer.Goals as goal
 
 pub slice_bounds-write_all-end : goal.slice_bounds-write_all-end
-slice_bounds-write_all-end c = replied_within c.check_text-size.ensures
+slice_bounds-write_all-end g c = replied_within c.check_text-size.ensures

@@ -15,7 +15,7 @@ use Rattle.hoa_tokens.specs.declared.Word.TheVariants as word_is
 use Rattle.hoa_tokens.specs.Token.{Token, word}
 use Rattle.hoa_standard.specs.declared.Piece.{Piece}
 use Rattle.hoa_standard.specs.Standard.{right, both, either, atom, Infs, Infop, infs_end, infop_end, infs_text}
-use Rattle.hoa_standard.specs.Standard.{rabin_text, Single, Streett, Strop, streett_text, strop_text, strop_end, spair_text, single_text, Truth, truth_text, Std}
+use Rattle.hoa_standard.specs.Standard.{rabin_text, Single, Strop, streett_text, strop_text, strop_end, spair_text, single_text, Truth, truth_text, Std}
 use Rattle.hoa_standard.specs.Standard.{std_text, IsStd}
 use Rattle.hoa_standard.specs.Machines.{Buchi, RabinWants, RabinBehind, StreettWants, StreettBehind, Bare, TruthWants, TruthBehind, Wants, Behind, begin}
 use Rattle.hoa_standard.specs.Machines.{streett_open, streett_inf, streett_fin, streett_close, streett_and, streett_or, bare_open, bare_inf, bare_fin, bare_close, bare_or, truth_open}

@@ -1,6 +1,5 @@
 -- `read_formula` meets its contract: each turn of the loop takes one token of the run (`reading_goes`), and where the reader stops the run
 -- says the same (`reading_over`, `reading_wrong`). The measure is what is left of the text. Assumes nothing.
-use Prim.Native.Nat.{◌-◌}
 use Rattle.hoa_formula.proofs.Readings.{reading_begins, reading_goes, reading_wrong, reading_over, goes_moves, turned, reading_counted, step_asks}
 use native.Mathlib.Omega.{arith}
 use Rattle.hoa_formula.proofs.read_formula.Goals as goal

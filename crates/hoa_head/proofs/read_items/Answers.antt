@@ -1,6 +1,5 @@
 -- `read_items` meets its contract: each turn reads one item (`items_go`), until `--BODY--` (`items_done`) or a refusal (`items_stop`). The measure is what is
 -- left of the text. Assumes nothing.
-use Prim.Native.Nat.{◌-◌}
 use Rattle.hoa_head.proofs.Items.{items_done, items_go, items_less, items_stop, reading_none}
 use native.Mathlib.Omega.{arith}
 use Rattle.hoa_head.proofs.read_items.Goals as goal

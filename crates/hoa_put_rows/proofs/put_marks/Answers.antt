@@ -1,6 +1,6 @@
 -- `body::put_marks` meets its contract: each turn writes one mark more (`joined_more`). The measure is the marks that are left. Assumes nothing.
 use mathlib.Core.Path.{◌≡◌}
-use Prim.Native.Nat.{◌-◌, zero-le}
+use Prim.Native.Nat.{zero-le}
 use Rattle.hoa_written.specs.Written.{mark_text}
 use Rattle.puts.proofs.Few.{joined_none, joined_more, few_length}
 use native.Mathlib.Omega.{arith}

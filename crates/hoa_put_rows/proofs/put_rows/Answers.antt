@@ -1,7 +1,7 @@
 -- `body::put_rows` meets its contract: the row of the state begins at e, and its run of edges is the row (`row_at_lem`), so that the next one begins where
 -- it ends. The measure is the states that are left. Assumes nothing.
 use mathlib.Core.Path.{◌≡◌, ◌∙◌, sym}
-use Prim.Native.Nat.{◌+◌, ◌-◌, zero-le}
+use Prim.Native.Nat.{◌+◌, zero-le}
 use Rattle.table.proofs.Rows.{first_begins, part_length}
 use Rattle.puts.proofs.Few.{joined_none, few_more, few_length}
 use Rattle.hoa_put_rows.proofs.Rows.{row_ends, row_at_lem, rows_more, next_row}

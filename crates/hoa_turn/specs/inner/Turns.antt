@@ -1,12 +1,10 @@
 -- One token as the reader takes it (src/step.rt): what its state stands for, and its turn by cases. Assumes nothing.
 use Rattle.std.specs.Prelude.{Bool, true, false, cond, ◌&&◌, List, ℕ, zero, suc, ◌≤◌, eqb, ltb, leb}
-use Rattle.table.specs.declared.Acceptance.TheVariants as acceptance
 use Rattle.hoa_standard.specs.declared.Piece.{Piece}
 use Rattle.hoa_standard.specs.declared.Piece.TheVariants as piece_is
 use Rattle.hoa_standard.specs.declared.Ahead.{Ahead}
 use Rattle.hoa_standard.specs.declared.Ahead.TheVariants as ahead_is_lem
 use Rattle.hoa_standard.specs.declared.Past.{Past}
-use Rattle.hoa_standard.specs.declared.Past.TheVariants as past_kinds
 use Rattle.hoa_turn.specs.declared.step.Stage.{Stage}
 use Rattle.hoa_turn.specs.declared.step.Stage.TheVariants as stage_is
 use Rattle.hoa_turn.specs.declared.step.Formula.{Formula}

@@ -1,7 +1,7 @@
 -- `edges::put_edges` meets its contract: each turn writes one edge more (`joined_more`). The measure is the edges that are left. Assumes nothing.
 use mathlib.Core.Path.{◌≡◌}
 use mathlib.Core.List.{List}
-use Prim.Native.Nat.{ℕ, ◌-◌, zero-le}
+use Prim.Native.Nat.{ℕ, zero-le}
 use lib.ListN.{length, get_or}
 use Rattle.puts.proofs.Few.{joined_none, joined_more, few_more, few_length}
 use Rattle.job_put_edges.specs.Edges.{edge_text}

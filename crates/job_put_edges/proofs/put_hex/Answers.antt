@@ -1,6 +1,6 @@
 -- `edges::put_hex` meets its contract: each turn writes one digit more (`joined_more`). The measure is the digits that are left. Assumes nothing.
 use mathlib.Core.Path.{◌≡◌}
-use Prim.Native.Nat.{◌-◌, zero-le}
+use Prim.Native.Nat.{zero-le}
 use native.Mathlib.Omega.{arith}
 use Rattle.puts.proofs.Few.{joined_none, joined_more, few_word, few_length}
 use Rattle.job_put_edges.specs.Edges.{hex_at}

@@ -3,4 +3,4 @@ use Rattle.hoa_text.proofs.Turning.{turned_within}
 use Rattle.job_to_hoa.proofs.answer.Goals as goal
 
 pub slice_bounds-write_all-end : goal.slice_bounds-write_all-end
-slice_bounds-write_all-end c = turned_within c.job_to_hoa-size.ensures
+slice_bounds-write_all-end g c = turned_within c.job_to_hoa-size.ensures

@@ -3,4 +3,4 @@ use Rattle.judge_text.proofs.HoaTelling.{hoa_replied_within}
 use Rattle.judge_hoa.proofs.answer.Goals as goal
 
 pub slice_bounds-write_all-end : goal.slice_bounds-write_all-end
-slice_bounds-write_all-end c = hoa_replied_within c.judge_hoa-size.ensures
+slice_bounds-write_all-end g c = hoa_replied_within c.judge_hoa-size.ensures

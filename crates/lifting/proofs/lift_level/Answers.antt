@@ -1,7 +1,6 @@
 -- `lift_level` meets its contract: each turn writes the three cells of one edge more (`wrote_cell`). The measure is the edges left.
 -- Assumes nothing.
 use mathlib.Core.Path.{◌≡◌}
-use Prim.Native.Nat.{◌-◌}
 use native.Mathlib.Omega.{arith}
 use lib.ListN.{length, get_or}
 use borrow.Author.Rules.{rules}
@@ -12,10 +11,13 @@ use Rattle.lifting.proofs.lift_level.Goals as goal
 -- the edge arrives at a state, and at a level
 pub number_of-arriving-requires : goal.number_of-arriving-requires
 number_of-arriving-requires c =
-    let i = c.loop-i.i in record { ladder = c.requires.ladder; state_lt_states = (
+    let i = c.loop-i.i in record {
+      ladder = c.requires.ladder;
+      state_lt_states = (
         c.requires.row_asked.ends i c.loop-i-test.true,
         omega (arith, c.land-landing.ensures.0, landing_below c.args.shape.k (get_or c.args.marks.now i 0) c.args.rung.level),
-      ) }
+      );
+    }
 
 pub loop-i-preserved : goal.loop-i-preserved
 loop-i-preserved c =

@@ -1,7 +1,7 @@
 -- `lift_row` meets its contract: each turn writes one level more, behind those before (`level_behind`). The measure is the levels left.
 -- Assumes nothing.
 use mathlib.Core.Path.{◌≡◌}
-use Prim.Native.Nat.{◌-◌, ◌<◌}
+use Prim.Native.Nat.{◌<◌}
 use native.Mathlib.Omega.{arith}
 use borrow.Author.Rules.{rules}
 use Rattle.lifting.proofs.Wrote.{wrote_kept, level_room, level_behind}

@@ -1,7 +1,6 @@
 -- `lift_table` meets its contract: each turn finds the row of the next state and writes what stands for it behind what stands for the states below
 -- (`row_behind`), so that at the end all states are written. The measure is the states left. Assumes nothing.
 use mathlib.Core.Path.{◌≡◌}
-use Prim.Native.Nat.{◌-◌}
 use native.Mathlib.Omega.{arith}
 use borrow.Author.Rules.{rules}
 use Rattle.table.specs.Table.{Table, lent}

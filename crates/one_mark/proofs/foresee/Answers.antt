@@ -213,8 +213,11 @@ number_of-first-requires c =
     let a = c.args in
     let s = sound_4 c in
     let told = c.level_count-levels in
-    let few = not_large (translated (table_4 c) a.k).states (translated (table_4 c) a.k).edges (sym (large-told_3 c) ∙ c.if-too_large.false) in record { ladder = ladder a.n a.start a.k a.from.now a.to.now a.marks.now s told.result told.ensures
-          (rw (← told.ensures, ← (made c).states) few); state_lt_states = (start_below a.n a.start a.k a.from.now a.to.now a.marks.now s, omega arith) }
+    let few = not_large (translated (table_4 c) a.k).states (translated (table_4 c) a.k).edges (sym (large-told_3 c) ∙ c.if-too_large.false) in record {
+      ladder = ladder a.n a.start a.k a.from.now a.to.now a.marks.now s told.result told.ensures
+          (rw (← told.ensures, ← (made c).states) few);
+      state_lt_states = (start_below a.n a.start a.k a.from.now a.to.now a.marks.now s, omega arith);
+    }
 
 pub overflow_cast-count : goal.overflow_cast-count
 overflow_cast-count c = omega (arith, edges_fit_2 c)

@@ -14,7 +14,6 @@ returns-in_default c =
 pub fill-requires : goal.fill-requires
 fill-requires c =
     let a = c.args in
-    let told = c.answer-1.given in
     ready a.n a.start a.k c.level_count-levels.result a.from.now a.to.now a.marks.now a.leaves.now a.arrives.now a.bears.now
     c.in-Made.states c.in-Made.edges c.in-Made.start (sym c.in-Made.is ∙ c.foresee-answer.ensures)
     c.level_count-levels.ensures
@@ -22,7 +21,6 @@ fill-requires c =
 pub returns : goal.returns
 returns c =
     let filled = c.fill.ensures in
-    let told = c.answer-1.given in
     let a = c.args in
     outcome_made a.n a.start a.k a.from.now a.to.now a.marks.now c.in-Made.states c.in-Made.edges c.in-Made.start
     (sym c.in-Made.is ∙ c.foresee-answer.ensures) filled

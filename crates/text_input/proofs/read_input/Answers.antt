@@ -1,17 +1,16 @@
--- `read_input` meets its contract: the text keeps its length, so what a read brings ends within it (`few`), and a read that brings nothing ends the
--- loop. The measure is what is left of the text. Assumes nothing.
-use Prim.Native.Nat.{◌-◌}
-use lib.ListN.{length}
-use Rattle.text_input.proofs.Counts.{few}
-use borrow.Author.Rules.{rules}
+-- `read_input` meets its contract: what a read brings stands behind what stood there before, and the reader lost both (`grown`). Assumes nothing.
+use Rattle.std.proofs.Common.{ℕ, ◌≡◌, ◌+◌, ◌∙◌, List, ◌++◌, Option, take, drop, ap, arith, subst, sym}
+use lib.Seq.{take-add}
+use Rattle.std.specs.Io.KnownBytes.{Consumes}
+use Rattle.std.proofs.KnownBytes.{Consumes-trans}
 use Rattle.text_input.proofs.read_input.Goals as goal
 
-pub overflow_add-at : goal.overflow_add-at
-overflow_add-at c =
-    let within = few (length c.loop-at.text - c.loop-at.at) c.read_more-more.ensures.within c.in-Bytes.is in
-    search rules
+grown : (first mid last : Option (List ℕ)) (at count : ℕ) (old new : List ℕ) → take at new ≡ take at old → Consumes first mid (take at old) → Consumes mid last (take count (drop at new)) → Consumes first last (take (at + count) new)
+grown first mid last at count old new same filled read =
+    let both = ap (λ l. l ++ take count (drop at new)) (sym same) ∙ sym (take-add at count new) in
+    subst (Consumes first last) both (Consumes-trans first mid last (take at old) (take count (drop at new)) filled read)
 
 pub loop-at-preserved : goal.loop-at-preserved
-loop-at-preserved c =
-    let within = few (length c.loop-at.text - c.loop-at.at) c.read_more-more.ensures.within c.in-Bytes.is in
-    search rules
+loop-at-preserved g c =
+    let read = c.in-Bytes.ensures in
+    record { within = omega (arith, read.within); filled = grown _ _ _ c.loop-at.at c.in-Bytes.count c.loop-at.text c.read_more.new.text read.text_unchanged c.loop-at.invariant.filled read.bytes.0 }

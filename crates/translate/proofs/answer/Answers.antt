@@ -3,4 +3,4 @@ use Rattle.translate_text.proofs.Translating.{turned_within}
 use Rattle.translate.proofs.answer.Goals as goal
 
 pub slice_bounds-write_all-end : goal.slice_bounds-write_all-end
-slice_bounds-write_all-end c = turned_within c.translate_text-size.ensures
+slice_bounds-write_all-end g c = turned_within c.translate_text-size.ensures

@@ -1,5 +1,5 @@
 -- `condition::all_there` meets its contract: the marks looked at are there. The measure is the marks left. Assumes nothing.
-use Prim.Native.Nat.{◌+◌, ◌-◌}
+use Prim.Native.Nat.{◌+◌}
 use borrow.Author.Tests.{not-true, not-false}
 use Rattle.marks.proofs.Cases.{refuted}
 use Rattle.marks.specs.Mark.{Has}

@@ -1,6 +1,5 @@
 -- `condition::forbidden` meets its contract: after i turns it has the marks that are dealt out before pair i. The measure is the pairs left. Assumes nothing.
 use mathlib.Core.Path.{◌≡◌, refl, ap, ◌∙◌}
-use Prim.Native.Nat.{◌-◌}
 use Rattle.marks.specs.Mark.{width}
 use Rattle.table.specs.Condition.{dealt}
 use Rattle.answer_check.proofs.Conditions.{dealt_next, dealt_within}

@@ -1,5 +1,5 @@
 -- `condition::meets_streett` meets its contract: the pairs looked at are answered. The measure is the pairs left. Assumes nothing.
-use Prim.Native.Nat.{◌+◌, ◌-◌, ◌*◌}
+use Prim.Native.Nat.{◌+◌, ◌*◌}
 use borrow.Author.Tests.{not-true, not-false}
 use Rattle.marks.proofs.Cases.{refuted}
 use Rattle.marks.specs.Mark.{Has}

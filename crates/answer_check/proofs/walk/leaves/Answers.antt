@@ -1,6 +1,6 @@
 -- `walk::leaves` meets its contract: none of the edges looked at leaves the state. The measure is what is left of the table. Assumes nothing.
 use mathlib.Core.Path.{◌≡◌, sym, ap, ◌∙◌}
-use Prim.Native.Nat.{ℕ, ◌-◌}
+use Prim.Native.Nat.{ℕ}
 use lib.ListN.{get_or}
 use Rattle.marks.proofs.Cases.{same}
 use native.Mathlib.Omega.{arith}

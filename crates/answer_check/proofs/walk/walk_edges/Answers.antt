@@ -1,7 +1,6 @@
 -- `walk::walk_edges` meets its contract: after each turn one edge more is walked, and the fields that are left are the edges that are left (`Underway`).
 -- The measure is what is left of the bytes. Assumes nothing.
 use mathlib.Core.Path.{sym, ap, ◌∙◌, subst}
-use Prim.Native.Nat.{◌-◌}
 use Rattle.job_values.specs.Given.{number_given}
 use Rattle.answer_check.specs.declared.walk.Walked.TheVariants as walked
 use Rattle.answer_check.specs.inner.{GoSays}

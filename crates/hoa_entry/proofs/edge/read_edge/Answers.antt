@@ -1,5 +1,5 @@
 -- `edge::read_edge` meets its contract: a label that is satisfiable where no edge finds room is refused at its `]`, one byte before what follows it. Assumes nothing.
-use mathlib.Core.Logic.{⊎_elim}
+use Rattle.hoa_entry.proofs.edge.read_edge.Goals.{then-set-gt0+else-kept-ge-MOST_EDGES, else-set-gt0}
 use Rattle.hoa_entry.proofs.Reading.{edge_refused, edge_full, edge_there, label_onward}
 use native.Mathlib.Omega.{arith}
 use Rattle.hoa_entry.proofs.edge.read_edge.Goals as goal
@@ -23,5 +23,5 @@ returns-after-set-gt0 c =
     let a = c.args in
     edge_there a.limits a.text.now a.at a.before a.kept c.in-Shut.is
     c.read_label.ensures c.read_to.result
-    (⊎_elim (λ w o. w.1.left) (λ w o. absurd (omega (arith, w.left))) c.if-set-gt0.branch)
+    (elim c.if-set-gt0.branch [ then-set-gt0+else-kept-ge-MOST_EDGES w ↦ λ o. w.if-kept-ge-MOST_EDGES.false | else-set-gt0 w ↦ λ o. absurd (omega (arith, w.if-set-gt0.false)) ])
     c.read_to.ensures

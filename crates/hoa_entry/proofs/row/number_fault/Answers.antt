@@ -1,4 +1,5 @@
 -- `row::number_fault` meets its contract: `[` is a label, and every other token has the number that it had. Assumes nothing.
+use borrow.Enum.Refused.{opened}
 use Rattle.hoa_entry.proofs.Reading.{number_label, number_missing}
 use Rattle.hoa_entry.proofs.row.number_fault.Goals as goal
 
@@ -12,4 +13,4 @@ pub returns : goal.returns
 returns c =
     let a = c.args in
     let e = c.entry_at-here in
-    number_missing a.text.now a.at e.result e.ensures a.number c.in_default.in_default-own.keys2
+    number_missing a.text.now a.at e.result e.ensures a.number (opened c.in_default.in_default-own.keys2)

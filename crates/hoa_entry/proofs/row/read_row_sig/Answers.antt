@@ -1,4 +1,5 @@
 -- `row::read_row_sig` meets its contract: `{` opens a sig, and any other token does there what it does behind a row. Assumes nothing.
+use borrow.Enum.Refused.{opened}
 use Rattle.hoa_entry.proofs.Reading.{row_sig_goes, row_sig_stays}
 use Rattle.hoa_entry.proofs.row.read_row_sig.Goals as goal
 
@@ -12,4 +13,4 @@ pub returns : goal.returns
 returns c =
     let a = c.args in
     let e = c.entry_at-here in
-    row_sig_stays a.text.now a.at e.result e.ensures a.c c.in_default.in_default-own.keys2
+    row_sig_stays a.text.now a.at e.result e.ensures a.c (opened c.in_default.in_default-own.keys2)

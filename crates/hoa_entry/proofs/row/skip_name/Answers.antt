@@ -1,4 +1,5 @@
 -- `row::skip_name` meets its contract: a name leads on, and any other token does there what it does behind a name. Assumes nothing.
+use borrow.Enum.Refused.{opened}
 use Rattle.hoa_entry.proofs.Reading.{name_goes, name_stays}
 use Rattle.hoa_entry.proofs.row.skip_name.Goals as goal
 
@@ -12,4 +13,4 @@ pub returns : goal.returns
 returns c =
     let a = c.args in
     let e = c.entry_at-here in
-    name_stays a.text.now a.at e.result e.ensures c.in_default.in_default-own.keys2
+    name_stays a.text.now a.at e.result e.ensures (opened c.in_default.in_default-own.keys2)

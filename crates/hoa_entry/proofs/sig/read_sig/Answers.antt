@@ -1,6 +1,5 @@
 -- `sig::read_sig` meets its contract: each turn takes one token (`sig_goes`, `sig_shuts`, `sig_faults`). The measure is what is left of the text. Assumes nothing.
 use mathlib.Core.Path.{refl}
-use Prim.Native.Nat.{◌-◌}
 use Rattle.hoa_entry.proofs.Reading.{sig_goes, sig_shuts, sig_faults}
 use native.Mathlib.Omega.{arith}
 use Rattle.hoa_entry.proofs.sig.read_sig.Goals as goal

@@ -1,4 +1,5 @@
 -- `sig::sig_token` meets its contract: each kind is told apart, and the others are one lemma. Assumes nothing.
+use borrow.Enum.Refused.{opened}
 use Rattle.hoa_entry.proofs.Told.{sig_mark, sig_above, sig_by_sign, sig_abort, sig_other}
 use Rattle.hoa_entry.proofs.sig.sig_token.Goals as goal
 
@@ -15,4 +16,4 @@ pub returns-in-Abort : goal.returns-in-Abort
 returns-in-Abort c = λ text p q. sig_abort _ _ text p q c.in-Abort.is
 
 pub returns-in_default : goal.returns-in_default
-returns-in_default c = λ text p q. sig_other _ _ text p q c.args.kind c.in_default.in_default-own.keys4
+returns-in_default c = λ text p q. sig_other _ _ text p q c.args.kind (opened c.in_default.in_default-own.keys4)

@@ -1,5 +1,4 @@
 -- `copied::copy_part` meets its contract: each turn copies one cell more (`Pasting`). The measure is the cells left. Assumes nothing.
-use Prim.Native.Nat.{◌-◌}
 use Rattle.hoa_kept.proofs.Copying.{pasting_none, pasting_more, pasting_done}
 use Rattle.hoa_kept.proofs.copied.copy_part.Goals as goal
 

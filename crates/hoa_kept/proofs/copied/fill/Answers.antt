@@ -1,5 +1,4 @@
 -- `copied::fill` meets its contract: each turn fills one cell more (`Filling`). The measure is the cells left. Assumes nothing.
-use Prim.Native.Nat.{◌-◌}
 use Rattle.hoa_kept.proofs.Copying.{filling_none, filling_more, filling_done}
 use Rattle.hoa_kept.proofs.copied.fill.Goals as goal
 

@@ -1,6 +1,5 @@
 -- `reader::read_entries` meets its contract: before each entry the rows so far are held, and the tokens left decide (`Standing`).
 -- The measure is what is left of the text. Assumes nothing.
-use Prim.Native.Nat.{◌-◌}
 use Rattle.hoa_rows.proofs.Turning.{standing_none, turn_goes, turn_over}
 use native.Mathlib.Omega.{arith}
 use Rattle.hoa_rows.proofs.reader.read_entries.Goals as goal

@@ -1,4 +1,5 @@
 -- `needs::counted` meets its contract: only two tokens change the needs, and no ninth pair begins (`begins`). Assumes nothing.
+use borrow.Enum.Refused.{opened}
 use borrow.Author.Tests.{le-ltb, lt-ltb}
 use mathlib.Core.Path.{sym, ◌∙◌}
 use Rattle.hoa_turn.proofs.Counting.{others_stage, others_counted, others_inf, begins, roomy}
@@ -9,7 +10,7 @@ pub returns-then-c-atoms : goal.returns-then-c-atoms
 returns-then-c-atoms c = rw (le-ltb _ _ c.if-c-atoms.true)
 
 pub returns-in_default : goal.returns-in_default
-returns-in_default c = let a = c.args in rw (lt-ltb _ _ c.if-c-atoms.false) (others_stage a.n a.stage a.p c.in_default.in_default-own.keys2)
+returns-in_default c = let a = c.args in rw (lt-ltb _ _ c.if-c-atoms.false) (others_stage a.n a.stage a.p (opened c.in_default.in_default-own.keys2))
 
 pub begun-requires : goal.begun-requires
 begun-requires c =
@@ -38,9 +39,9 @@ returns-else-opens_pair c =
 pub returns-in_default-a : goal.returns-in_default-a
 returns-in_default-a c =
     rw (c.in-Operand.is, c.in-Inf.is, lt-ltb _ _ c.if-c-atoms.false)
-    (others_inf c.args.n c.in-Operand.a c.in_default-a.in_default-a-own.keys2)
+    (others_inf c.args.n c.in-Operand.a (opened c.in_default-a.in_default-a-own.keys2))
 
 pub returns-in_default-p : goal.returns-in_default-p
 returns-in_default-p c =
     let a = c.args in
-    rw (c.in-Operand.is, lt-ltb _ _ c.if-c-atoms.false) (others_counted a.n c.in-Operand.a a.p c.in_default-p.in_default-p-own.keys3)
+    rw (c.in-Operand.is, lt-ltb _ _ c.if-c-atoms.false) (others_counted a.n c.in-Operand.a a.p (opened c.in_default-p.in_default-p-own.keys3))

@@ -1,4 +1,5 @@
 -- `step::on_bracket` meets its contract: the number is compared with the atoms, the other tokens are refused. Assumes nothing.
+use borrow.Enum.Refused.{opened}
 use Rattle.hoa_turn.proofs.Turns.{others_bracket, number_above, number_other, number_right}
 use Rattle.hoa_turn.proofs.step.on_bracket.Goals as goal
 
@@ -12,4 +13,4 @@ pub returns-else-k-atoms : goal.returns-else-k-atoms
 returns-else-k-atoms c = rw c.in-Number.is (number_other _ _ _ _ c.if-k-atoms.false)
 
 pub returns-in_default : goal.returns-in_default
-returns-in_default c = let a = c.args in rw c.refusal.ensures (others_bracket a.depth a.atoms a.b a.p c.in_default.in_default-own.keys3)
+returns-in_default c = let a = c.args in rw c.refusal.ensures (others_bracket a.depth a.atoms a.b a.p (opened c.in_default.in_default-own.keys3))

@@ -1,9 +1,10 @@
 -- `step::on_number` meets its contract: one token goes on, the others are refused. Assumes nothing.
+use borrow.Enum.Refused.{opened}
 use Rattle.hoa_turn.proofs.Turns.{others_number}
 use Rattle.hoa_turn.proofs.step.on_number.Goals as goal
 
 pub returns-in_default : goal.returns-in_default
-returns-in_default c = let a = c.args in rw c.refusal.ensures (others_number a.depth a.atoms a.b a.p c.in_default.in_default-own.keys2)
+returns-in_default c = let a = c.args in rw c.refusal.ensures (others_number a.depth a.atoms a.b a.p (opened c.in_default.in_default-own.keys2))
 
 pub returns : goal.returns
 returns c = rw c.in-Right.is

@@ -1,4 +1,5 @@
 -- `step::on_operand` meets its contract: case by case, by what the callees promise. Assumes nothing.
+use borrow.Enum.Refused.{opened}
 use native.Mathlib.Numerals.{add-one}
 use Rattle.hoa_turn.proofs.Turns.{others_operand}
 use native.Mathlib.Omega.{arith}
@@ -26,4 +27,4 @@ pub returns-in-Name : goal.returns-in-Name
 returns-in-Name c = rw c.in-Name.is
 
 pub returns-in_default : goal.returns-in_default
-returns-in_default c = let a = c.args in rw c.refusal.ensures (others_operand a.c a.depth a.atoms a.a a.p a.pairs c.in_default.in_default-own.keys6)
+returns-in_default c = let a = c.args in rw c.refusal.ensures (others_operand a.c a.depth a.atoms a.a a.p a.pairs (opened c.in_default.in_default-own.keys6))

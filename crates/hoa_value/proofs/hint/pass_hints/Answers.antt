@@ -1,7 +1,6 @@
 -- `hint::pass_hints` meets its contract: each turn passes over one token (`hint_goes`), and the first that does not belong does what it does where
 -- an item may begin (`hints_end`). The measure is what is left of the text. Assumes nothing.
 use mathlib.Core.Path.{◌∙◌, sym}
-use Prim.Native.Nat.{◌-◌}
 use borrow.Author.Tests.{not-false, not-true}
 use Rattle.hoa_value.proofs.Passing.{hint_goes, hint_less, hints_end, none_so_far}
 use Rattle.hoa_value.proofs.hint.pass_hints.Goals as goal

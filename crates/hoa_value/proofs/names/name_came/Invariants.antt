@@ -1,5 +1,5 @@
 use mathlib.Core.Path.{◌≡◌}
-use Prim.Native.Nat.{◌-◌, ◌≤◌}
+use Prim.Native.Nat.{◌≤◌}
 use Rattle.hoa_value.specs.Heading.{name_came}
 use Rattle.hoa_value.specs.inner.Names.{name_list}
 use Rattle.hoa_tokens.specs.Stream.{part}

@@ -1,7 +1,6 @@
 -- `names::read_names` meets its contract: each turn reads one name and remembers where it stands (`name_goes`), and behind the last no further one
 -- stands (`names_end`). The measure is the names that are left. Assumes nothing.
 use mathlib.Core.Path.{refl}
-use Prim.Native.Nat.{◌-◌}
 use Rattle.hoa_value.proofs.Naming.{name_goes, name_stops, names_end, names_none}
 use Rattle.hoa_value.proofs.names.read_names.Goals as goal
 

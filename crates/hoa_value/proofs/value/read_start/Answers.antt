@@ -1,7 +1,7 @@
 -- `value::read_start` meets its contract: another token than an INT is refused (`start_stops`), an INT at fault (`start_wrong`), and an `&` behind it
 -- (`start_joined`); else an item may begin (`start_over`). Assumes nothing.
 use mathlib.Core.Path.{◌∙◌, sym}
-use Rattle.hoa_value.proofs.Values.{int_not, int_there, not_joined, start_joined, start_over, start_stops, start_wrong}
+use Rattle.hoa_value.proofs.Values.{int_not, int_there, start_joined, start_over, start_stops, start_wrong}
 use Rattle.hoa_value.proofs.value.read_start.Goals as goal
 
 pub returns-then-fault-ne0 : goal.returns-then-fault-ne0

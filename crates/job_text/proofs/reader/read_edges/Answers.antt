@@ -1,6 +1,6 @@
 -- `reader::read_edges` meets its contract: after i edge lines their edges stand in the tables, and the lines that are left decide (`SoFar`).
 -- The measure is the edges still to be read. Assumes nothing.
-use Prim.Native.Nat.{◌+◌, ◌-◌}
+use Prim.Native.Nat.{◌+◌}
 use Rattle.job_text.proofs.Heads.{blamed_at}
 use Rattle.job_text.proofs.Bodies.{so_far_none, edge_stops, edge_goes, edges_done, edge_line_stops, edge_line_goes}
 use native.Mathlib.Omega.{arith}

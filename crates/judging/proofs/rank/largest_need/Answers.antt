@@ -1,7 +1,7 @@
 -- `rank::largest_need` meets its contract. The invariant: the largest is the larger of `most` and the largest of those from i on. The measure is the
 -- needs left. Assumes nothing.
 use mathlib.Core.Path.{◌≡◌, sym, ap, ◌∙◌}
-use Prim.Native.Nat.{ℕ, ◌+◌, ◌-◌, max}
+use Prim.Native.Nat.{ℕ, ◌+◌, max}
 use native.Mathlib.Omega.{arith}
 use lib.ListN.{length, drop}
 use borrow.Author.Rules.{rules as trivial}

@@ -1,2 +1,0 @@
--- Counts: a count that was read lies within what was asked for
-pub mod Counts

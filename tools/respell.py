@@ -34,6 +34,8 @@ APART_OF = {
 }
 # `ground` is a tactic today, which no word of a clause or a spec may be named as.
 APART = {"ground": "grounded", "past_is": "past_kinds", "first_Marks": "first_marks", "at_Edge": "at_edge"}
+# Names under which variants are imported, where a definition has the word already.
+ALIASES = {"ahead-is": "ahead_kinds", "int-kind": "int_kinds", "text-kind": "text_kinds", "head-end": "head_endings"}
 TOKEN = re.compile(r"--[^\n]*|//[^\n]*|\"(?:[^\"\\\n]|\\.)*\"|[^\s(){}\[\].,;:\"`|&]+")
 TICKED = re.compile(r"`[^`\n]*`")
 WORD = re.compile(r"[^\s(){}\[\].,;:\"`|&]+")
@@ -85,6 +87,8 @@ def dashed_names(top):
         else:
             new = "_".join(snake(p).lower() if p == "Stage" else snake(p) for p in parts)
             spelled[name] = new + "_lem" if new in others else new
+    for name, new in ALIASES.items():
+        spelled[name] = new
     for name in found:
         if name.startswith("has-mark"):
             spelled[name] = name.replace("-", "_")

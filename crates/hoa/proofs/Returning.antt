@@ -11,7 +11,7 @@ use Rattle.hoa_step.specs.Given.{given_or}
 use Rattle.hoa_step.specs.Machine.{End, done_at, wrong_at, cut}
 use Rattle.hoa_value.specs.declared.Head.{Head}
 use Rattle.hoa_head.specs.declared.HeadEnd.{HeadEnd}
-use Rattle.hoa_head.specs.declared.HeadEnd.TheVariants as head_end_lem
+use Rattle.hoa_head.specs.declared.HeadEnd.TheVariants as head_endings
 use Rattle.hoa_head.specs.declared.HeadRead.{HeadRead}
 use Rattle.hoa_head.specs.Headed.{head_end, Ends, Headed}
 use Rattle.hoa_entry.specs.declared.Limits.{Limits}
@@ -96,14 +96,14 @@ module _ {text : List ℕ} {o : HeadRead} (H : Headed text o) where
   ends e = subst (λ (x : HeadEnd). Ends text (head_end text) o.head x) e H.says
 
   -- the header is refused
-  pub head_refused : {from to marks : List ℕ} {number place : ℕ} {a : Hoa} → o.end ≡ head_end_lem.Refused number place → a ≡ refused_hoa number place
+  pub head_refused : {from to marks : List ℕ} {number place : ℕ} {a : Hoa} → o.end ≡ head_endings.Refused number place → a ≡ refused_hoa number place
       → ReadInto text from to marks from to marks a
   head_refused {number = number} {place = place} e f =
       let says = says_refused text number place (ends e).0 in
       rw f (record { reading = rw says; froms = refl; tos = refl; sets = refl })
 
   -- the header is read, and then the rows
-  pub head_read : {next : ℕ} {from to marks from' to' marks' : List ℕ} {a : Hoa} → o.end ≡ head_end_lem.Body next
+  pub head_read : {next : ℕ} {from to marks from' to' marks' : List ℕ} {a : Hoa} → o.end ≡ head_endings.Body next
       → RowsReadInto o.head text next from to marks from' to' marks' a → ReadInto text from to marks from' to' marks' a
   head_read {next} e R =
       let says = says_rows text o.head next (ends e).0 in

@@ -15,7 +15,7 @@ use Rattle.hoa_tokens.proofs.Next.{tokens_next, token_takes, Moves, unless_kind}
 use Rattle.hoa_standard.specs.declared.Piece.{Piece}
 use Rattle.hoa_standard.specs.declared.Piece.TheVariants as piece_is
 use Rattle.hoa_standard.specs.declared.Ahead.{Ahead}
-use Rattle.hoa_standard.specs.declared.Ahead.TheVariants as ahead_is_lem
+use Rattle.hoa_standard.specs.declared.Ahead.TheVariants as ahead_kinds
 use Rattle.hoa_standard.specs.declared.Past.{Past}
 use Rattle.hoa_standard.specs.declared.Past.TheVariants as past_kinds
 use Rattle.hoa_turn.specs.declared.step.Stage.{Stage}
@@ -59,14 +59,14 @@ piece_token text a b kind_is.Bad = refl
 -- ---- larger bounds
 
 ahead_up : (j k : ℕ) (a : Ahead) → j ≤ k → AheadWithin j a → AheadWithin k a
-ahead_up j k ahead_is_lem.Lost l h = tt
-ahead_up j k (ahead_is_lem.Start d) l h = omega arith
-ahead_up j k (ahead_is_lem.FirstOr o m v) l h = omega arith
-ahead_up j k (ahead_is_lem.Buchi d) l h = omega arith
-ahead_up j k (ahead_is_lem.RabinFin m b) l h = omega arith
-ahead_up j k (ahead_is_lem.RabinInf m b d) l h = omega arith
-ahead_up j k (ahead_is_lem.StreettFin m u) l h = omega arith
-ahead_up j k (ahead_is_lem.StreettInf m v) l h = omega arith
+ahead_up j k ahead_kinds.Lost l h = tt
+ahead_up j k (ahead_kinds.Start d) l h = omega arith
+ahead_up j k (ahead_kinds.FirstOr o m v) l h = omega arith
+ahead_up j k (ahead_kinds.Buchi d) l h = omega arith
+ahead_up j k (ahead_kinds.RabinFin m b) l h = omega arith
+ahead_up j k (ahead_kinds.RabinInf m b d) l h = omega arith
+ahead_up j k (ahead_kinds.StreettFin m u) l h = omega arith
+ahead_up j k (ahead_kinds.StreettInf m v) l h = omega arith
 
 past_up : (j k : ℕ) (p : Past) → j ≤ k → PastWithin j p → PastWithin k p
 past_up j k past_kinds.Lost l h = tt
@@ -189,7 +189,7 @@ zeros zero i = omega arith
 zeros (suc k) zero = omega arith
 zeros (suc k) (suc i) = zeros k i
 
-pub reading_begins : (text : List ℕ) (at c : ℕ) → Reading text at c (formula 0 0 (stage_is.Operand (ahead_is_lem.Start 0))) (tally 0 no_needs) at
+pub reading_begins : (text : List ℕ) (at c : ℕ) → Reading text at c (formula 0 0 (stage_is.Operand (ahead_kinds.Start 0))) (tally 0 no_needs) at
 unfolding formula_begin eight_needs
 reading_begins text at c =
     record {

@@ -26,7 +26,7 @@ use Rattle.hoa_head.specs.declared.item.Turn.{Turn}
 use Rattle.hoa_head.specs.declared.item.Turn.TheVariants as turn
 use Rattle.hoa_head.specs.declared.item.HeadTurn.{HeadTurn}
 use Rattle.hoa_head.specs.declared.HeadRead.{HeadRead}
-use Rattle.hoa_head.specs.declared.HeadEnd.TheVariants as head_end_lem
+use Rattle.hoa_head.specs.declared.HeadEnd.TheVariants as head_endings
 use Rattle.hoa_value.specs.Head.{blank, with_states, with_start, with_props, with_marks, with_acc_name, with_tool, with_name}
 use Rattle.hoa_value.specs.Heading.{HeadState, items, states_int, start_int, props_int, marks_int, acc_name, tool_text, name_text, hints, head_step, on_item, on_body, on_piece}
 use Rattle.hoa_head.specs.Headed.{Headed, head_end}
@@ -202,7 +202,7 @@ module _ (text : List ℕ) (at : ℕ) (h : Head) (next : ℕ) (f : Reading text 
   pub items_go : (q : ℕ) → t.turn ≡ turn.Go q → Reading text at t.head q
   items_go q e = record { says = f.says ∙ (rw e at o.says); within = (items_less q e).1 }
 
-  pub items_done : (q : ℕ) → t.turn ≡ turn.Done q → ItemsRead text at (record { end = head_end_lem.Body q; head = t.head })
+  pub items_done : (q : ℕ) → t.turn ≡ turn.Done q → ItemsRead text at (record { end = head_endings.Body q; head = t.head })
   items_done q e = record { says = (f.says ∙ (rw e at o.says), rw e at o.stays) }
 
   pub items_stop : (r : HeadRead) (n p : ℕ) → t.turn ≡ turn.Refused n p → r ≡ refused_read n p → ItemsRead text at r

@@ -8,7 +8,7 @@ use borrow.Author.Tests.{ne_eqb}
 use denote.Enum.Declared
 use types.Run.{OneOf, miss}
 use Rattle.hoa_standard.specs.declared.Ahead.{Ahead}
-use Rattle.hoa_standard.specs.declared.Ahead.TheVariants as ahead_is_lem
+use Rattle.hoa_standard.specs.declared.Ahead.TheVariants as ahead_kinds
 use Rattle.hoa_standard.specs.declared.Past.{Past}
 use Rattle.hoa_standard.specs.declared.Past.TheVariants as past_kinds
 use Rattle.hoa_standard.specs.contracts.Ahead as ahead
@@ -92,10 +92,10 @@ pub bare_closed : (d : ℕ) → (d ≡ 0 → ⊥) → past_kinds.Bare (d - 1) �
 bare_closed zero n = absurd (n refl)
 bare_closed (suc d) n = rw (less_one d)
 
-pub or_lost : {p : Past} {m b d : ℕ} → p ≡ past_kinds.RabinPair m b d → (d ≡ 0 → ⊥) → ahead_is_lem.Lost ≡ or_to p
+pub or_lost : {p : Past} {m b d : ℕ} → p ≡ past_kinds.RabinPair m b d → (d ≡ 0 → ⊥) → ahead_kinds.Lost ≡ or_to p
 or_lost {p} {m} {b} {d} e n = rw e (go d n)
   where
-    go : (k : ℕ) → (k ≡ 0 → ⊥) → ahead_is_lem.Lost ≡ or_to (past_kinds.RabinPair m b k)
+    go : (k : ℕ) → (k ≡ 0 → ⊥) → ahead_kinds.Lost ≡ or_to (past_kinds.RabinPair m b k)
     go zero n = absurd (n refl)
     go (suc k) n = refl
 
@@ -108,24 +108,24 @@ abbrev past_tag : Past → ℕ
 past_tag p = Declared.tag_of past.the_type p
 
 pub others_truth : (c : ℕ) (b : Bool) (a : Ahead) → OneOf (0 ∷ 2 ∷ 3 ∷ 4 ∷ 5 ∷ 6 ∷ 7 ∷ []) (ahead_tag a) → past_kinds.Lost ≡ truth_to c b a
-others_truth c b ahead_is_lem.Lost h = refl
-others_truth c b (ahead_is_lem.Start d) h = absurd (miss (0 ∷ 2 ∷ 3 ∷ 4 ∷ 5 ∷ 6 ∷ 7 ∷ []) 1 tt h)
-others_truth c b (ahead_is_lem.FirstOr o m v) h = refl
-others_truth c b (ahead_is_lem.Buchi d) h = refl
-others_truth c b (ahead_is_lem.RabinFin m x) h = refl
-others_truth c b (ahead_is_lem.RabinInf m x d) h = refl
-others_truth c b (ahead_is_lem.StreettFin m u) h = refl
-others_truth c b (ahead_is_lem.StreettInf m v) h = refl
+others_truth c b ahead_kinds.Lost h = refl
+others_truth c b (ahead_kinds.Start d) h = absurd (miss (0 ∷ 2 ∷ 3 ∷ 4 ∷ 5 ∷ 6 ∷ 7 ∷ []) 1 tt h)
+others_truth c b (ahead_kinds.FirstOr o m v) h = refl
+others_truth c b (ahead_kinds.Buchi d) h = refl
+others_truth c b (ahead_kinds.RabinFin m x) h = refl
+others_truth c b (ahead_kinds.RabinInf m x d) h = refl
+others_truth c b (ahead_kinds.StreettFin m u) h = refl
+others_truth c b (ahead_kinds.StreettInf m v) h = refl
 
 pub others_found : (a : Ahead) → OneOf (1 ∷ 2 ∷ 3 ∷ 4 ∷ 5 ∷ 6 ∷ 7 ∷ []) (ahead_tag a) → false ≡ is_lost_ahead a
-others_found ahead_is_lem.Lost h = absurd (miss (1 ∷ 2 ∷ 3 ∷ 4 ∷ 5 ∷ 6 ∷ 7 ∷ []) 0 tt h)
-others_found (ahead_is_lem.Start d) h = refl
-others_found (ahead_is_lem.FirstOr o m v) h = refl
-others_found (ahead_is_lem.Buchi d) h = refl
-others_found (ahead_is_lem.RabinFin m x) h = refl
-others_found (ahead_is_lem.RabinInf m x d) h = refl
-others_found (ahead_is_lem.StreettFin m u) h = refl
-others_found (ahead_is_lem.StreettInf m v) h = refl
+others_found ahead_kinds.Lost h = absurd (miss (1 ∷ 2 ∷ 3 ∷ 4 ∷ 5 ∷ 6 ∷ 7 ∷ []) 0 tt h)
+others_found (ahead_kinds.Start d) h = refl
+others_found (ahead_kinds.FirstOr o m v) h = refl
+others_found (ahead_kinds.Buchi d) h = refl
+others_found (ahead_kinds.RabinFin m x) h = refl
+others_found (ahead_kinds.RabinInf m x d) h = refl
+others_found (ahead_kinds.StreettFin m u) h = refl
+others_found (ahead_kinds.StreettInf m v) h = refl
 
 pub others_past : (p : Past) → OneOf (1 ∷ 2 ∷ 3 ∷ 4 ∷ 5 ∷ 6 ∷ 7 ∷ 8 ∷ 9 ∷ []) (past_tag p) → false ≡ is_lost_past p
 others_past past_kinds.Lost h = absurd (miss (1 ∷ 2 ∷ 3 ∷ 4 ∷ 5 ∷ 6 ∷ 7 ∷ 8 ∷ 9 ∷ []) 0 tt h)
@@ -139,7 +139,7 @@ others_past (past_kinds.StreettInf m v) h = refl
 others_past (past_kinds.StreettPair m) h = refl
 others_past (past_kinds.Bare x) h = refl
 
-pub others_and : (p : Past) → OneOf (0 ∷ 1 ∷ 5 ∷ 6 ∷ 7 ∷ 9 ∷ []) (past_tag p) → ahead_is_lem.Lost ≡ and_to p
+pub others_and : (p : Past) → OneOf (0 ∷ 1 ∷ 5 ∷ 6 ∷ 7 ∷ 9 ∷ []) (past_tag p) → ahead_kinds.Lost ≡ and_to p
 others_and past_kinds.Lost h = refl
 others_and (past_kinds.Truth b d) h = refl
 others_and (past_kinds.Buchi d) h = absurd (miss (0 ∷ 1 ∷ 5 ∷ 6 ∷ 7 ∷ 9 ∷ []) 2 tt h)
@@ -151,7 +151,7 @@ others_and (past_kinds.StreettInf m v) h = refl
 others_and (past_kinds.StreettPair m) h = absurd (miss (0 ∷ 1 ∷ 5 ∷ 6 ∷ 7 ∷ 9 ∷ []) 8 tt h)
 others_and (past_kinds.Bare x) h = refl
 
-pub others_or : (p : Past) → OneOf (0 ∷ 1 ∷ 2 ∷ 7 ∷ 8 ∷ 9 ∷ []) (past_tag p) → ahead_is_lem.Lost ≡ or_to p
+pub others_or : (p : Past) → OneOf (0 ∷ 1 ∷ 2 ∷ 7 ∷ 8 ∷ 9 ∷ []) (past_tag p) → ahead_kinds.Lost ≡ or_to p
 others_or past_kinds.Lost h = refl
 others_or (past_kinds.Truth b d) h = refl
 others_or (past_kinds.Buchi d) h = refl

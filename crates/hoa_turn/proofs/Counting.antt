@@ -11,7 +11,7 @@ use types.Run.{OneOf, miss}
 use Rattle.hoa_standard.specs.declared.Piece.{Piece}
 use Rattle.hoa_standard.specs.declared.Piece.TheVariants as piece_is
 use Rattle.hoa_standard.specs.declared.Ahead.{Ahead}
-use Rattle.hoa_standard.specs.declared.Ahead.TheVariants as ahead_is_lem
+use Rattle.hoa_standard.specs.declared.Ahead.TheVariants as ahead_kinds
 use Rattle.hoa_standard.specs.contracts.Ahead as ahead
 use Rattle.hoa_standard.specs.contracts.Piece as piece
 use Rattle.hoa_standard.specs.Standard.{most_pairs}
@@ -46,14 +46,14 @@ others_counted n a piece_is.Abort h = refl
 others_counted n a piece_is.Foreign h = refl
 
 pub others_inf : (n : Needs) (a : Ahead) → OneOf (0 ∷ 1 ∷ 2 ∷ 3 ∷ 4 ∷ 6 ∷ 7 ∷ []) (Declared.tag_of ahead.the_type a) → n ≡ inf_needs n a
-others_inf n ahead_is_lem.Lost h = refl
-others_inf n (ahead_is_lem.Start x) h = refl
-others_inf n (ahead_is_lem.FirstOr o m v) h = refl
-others_inf n (ahead_is_lem.Buchi x) h = refl
-others_inf n (ahead_is_lem.RabinFin m b) h = refl
-others_inf n (ahead_is_lem.RabinInf m b x) h = absurd (miss (0 ∷ 1 ∷ 2 ∷ 3 ∷ 4 ∷ 6 ∷ 7 ∷ []) 5 tt h)
-others_inf n (ahead_is_lem.StreettFin m u) h = refl
-others_inf n (ahead_is_lem.StreettInf m v) h = refl
+others_inf n ahead_kinds.Lost h = refl
+others_inf n (ahead_kinds.Start x) h = refl
+others_inf n (ahead_kinds.FirstOr o m v) h = refl
+others_inf n (ahead_kinds.Buchi x) h = refl
+others_inf n (ahead_kinds.RabinFin m b) h = refl
+others_inf n (ahead_kinds.RabinInf m b x) h = absurd (miss (0 ∷ 1 ∷ 2 ∷ 3 ∷ 4 ∷ 6 ∷ 7 ∷ []) 5 tt h)
+others_inf n (ahead_kinds.StreettFin m u) h = refl
+others_inf n (ahead_kinds.StreettInf m v) h = refl
 
 -- ---- room for one more
 

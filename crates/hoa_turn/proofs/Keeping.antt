@@ -11,7 +11,7 @@ use borrow.Author.Tests.{leb-false, ne_eqb}
 use Rattle.hoa_standard.specs.declared.Piece.{Piece}
 use Rattle.hoa_standard.specs.declared.Piece.TheVariants as piece_is
 use Rattle.hoa_standard.specs.declared.Ahead.{Ahead}
-use Rattle.hoa_standard.specs.declared.Ahead.TheVariants as ahead_is_lem
+use Rattle.hoa_standard.specs.declared.Ahead.TheVariants as ahead_kinds
 use Rattle.hoa_standard.specs.declared.Past.{Past}
 use Rattle.hoa_standard.specs.declared.Past.TheVariants as past_kinds
 use Rattle.hoa_turn.specs.declared.step.Stage.{Stage}
@@ -32,14 +32,14 @@ use Rattle.hoa_turn.proofs.Steps.{needs_next}
 -- ---- counts of brackets
 
 open_within : (k : ℕ) (a : Ahead) → AheadWithin k a → AheadWithin (suc k) (opened_to a)
-open_within k ahead_is_lem.Lost h = tt
-open_within k (ahead_is_lem.Start d) h = omega arith
-open_within k (ahead_is_lem.FirstOr o m v) h = omega arith
-open_within k (ahead_is_lem.Buchi d) h = omega arith
-open_within k (ahead_is_lem.RabinFin m b) h = omega arith
-open_within k (ahead_is_lem.RabinInf m b d) h = omega arith
-open_within k (ahead_is_lem.StreettFin m u) h = omega arith
-open_within k (ahead_is_lem.StreettInf m v) h = omega arith
+open_within k ahead_kinds.Lost h = tt
+open_within k (ahead_kinds.Start d) h = omega arith
+open_within k (ahead_kinds.FirstOr o m v) h = omega arith
+open_within k (ahead_kinds.Buchi d) h = omega arith
+open_within k (ahead_kinds.RabinFin m b) h = omega arith
+open_within k (ahead_kinds.RabinInf m b d) h = omega arith
+open_within k (ahead_kinds.StreettFin m u) h = omega arith
+open_within k (ahead_kinds.StreettInf m v) h = omega arith
 
 first_within : (k c o v : ℕ) (t : Bool) → v ≤ k → PastWithin (suc k) (cond t (past_kinds.Bare v) past_kinds.Lost)
 first_within k c o v true h = omega arith
@@ -54,37 +54,37 @@ truth_within_by k d x true h = omega arith
 truth_within_by k d x false h = tt
 
 inf_within : (k c : ℕ) (a : Ahead) → AheadWithin k a → PastWithin (suc k) (inf_to c a)
-inf_within k c ahead_is_lem.Lost h = tt
-inf_within k c (ahead_is_lem.Start d) h = omega arith
-inf_within k c (ahead_is_lem.FirstOr zero m v) h = first_within k c 0 v (eqb c 2) h.2
-inf_within k c (ahead_is_lem.FirstOr (suc o) m v) h = first_within_2 k c o v (eqb (c % 2) 0) (omega arith) h.2
-inf_within k c (ahead_is_lem.Buchi d) h = omega arith
-inf_within k c (ahead_is_lem.RabinFin m b) h = tt
-inf_within k c (ahead_is_lem.RabinInf m b d) h = omega arith
-inf_within k c (ahead_is_lem.StreettFin m u) h = tt
-inf_within k c (ahead_is_lem.StreettInf m v) h = omega arith
+inf_within k c ahead_kinds.Lost h = tt
+inf_within k c (ahead_kinds.Start d) h = omega arith
+inf_within k c (ahead_kinds.FirstOr zero m v) h = first_within k c 0 v (eqb c 2) h.2
+inf_within k c (ahead_kinds.FirstOr (suc o) m v) h = first_within_2 k c o v (eqb (c % 2) 0) (omega arith) h.2
+inf_within k c (ahead_kinds.Buchi d) h = omega arith
+inf_within k c (ahead_kinds.RabinFin m b) h = tt
+inf_within k c (ahead_kinds.RabinInf m b d) h = omega arith
+inf_within k c (ahead_kinds.StreettFin m u) h = tt
+inf_within k c (ahead_kinds.StreettInf m v) h = omega arith
 
 fin_within : (k : ℕ) (a : Ahead) → AheadWithin k a → PastWithin (suc k) (fin_to a)
-fin_within k ahead_is_lem.Lost h = tt
-fin_within k (ahead_is_lem.Start d) h = omega arith
-fin_within k (ahead_is_lem.FirstOr o m v) h = omega arith
-fin_within k (ahead_is_lem.Buchi d) h = tt
-fin_within k (ahead_is_lem.RabinFin m b) h = omega arith
-fin_within k (ahead_is_lem.RabinInf m b d) h = tt
-fin_within k (ahead_is_lem.StreettFin m zero) h = tt
-fin_within k (ahead_is_lem.StreettFin zero (suc u)) h = tt
-fin_within k (ahead_is_lem.StreettFin (suc m) (suc u)) h = omega arith
-fin_within k (ahead_is_lem.StreettInf m v) h = tt
+fin_within k ahead_kinds.Lost h = tt
+fin_within k (ahead_kinds.Start d) h = omega arith
+fin_within k (ahead_kinds.FirstOr o m v) h = omega arith
+fin_within k (ahead_kinds.Buchi d) h = tt
+fin_within k (ahead_kinds.RabinFin m b) h = omega arith
+fin_within k (ahead_kinds.RabinInf m b d) h = tt
+fin_within k (ahead_kinds.StreettFin m zero) h = tt
+fin_within k (ahead_kinds.StreettFin zero (suc u)) h = tt
+fin_within k (ahead_kinds.StreettFin (suc m) (suc u)) h = omega arith
+fin_within k (ahead_kinds.StreettInf m v) h = tt
 
 truth_within : (k c : ℕ) (x : Bool) (a : Ahead) → AheadWithin k a → PastWithin (suc k) (truth_to c x a)
-truth_within k c x ahead_is_lem.Lost h = tt
-truth_within k c x (ahead_is_lem.Start d) h = truth_within_by k d x (eqb c 0) h
-truth_within k c x (ahead_is_lem.FirstOr o m v) h = tt
-truth_within k c x (ahead_is_lem.Buchi d) h = tt
-truth_within k c x (ahead_is_lem.RabinFin m b) h = tt
-truth_within k c x (ahead_is_lem.RabinInf m b d) h = tt
-truth_within k c x (ahead_is_lem.StreettFin m u) h = tt
-truth_within k c x (ahead_is_lem.StreettInf m v) h = tt
+truth_within k c x ahead_kinds.Lost h = tt
+truth_within k c x (ahead_kinds.Start d) h = truth_within_by k d x (eqb c 0) h
+truth_within k c x (ahead_kinds.FirstOr o m v) h = tt
+truth_within k c x (ahead_kinds.Buchi d) h = tt
+truth_within k c x (ahead_kinds.RabinFin m b) h = tt
+truth_within k c x (ahead_kinds.RabinInf m b d) h = tt
+truth_within k c x (ahead_kinds.StreettFin m u) h = tt
+truth_within k c x (ahead_kinds.StreettInf m v) h = tt
 
 close_within : (k : ℕ) (p : Past) → PastWithin k p → PastWithin (suc k) (closed_to p)
 close_within k past_kinds.Lost h = tt
@@ -284,24 +284,24 @@ module _ (c : ℕ) (ns : List ℕ) (n : Needs) where
       }
     where
       counted : (x : Ahead) → Counts ns n → Counts (needs_inf (ahead_is c x).rabin ns) (inf_needs n x)
-      counted ahead_is_lem.Lost h = h
-      counted (ahead_is_lem.Start d) h = h
-      counted (ahead_is_lem.FirstOr o m v) h = h
-      counted (ahead_is_lem.Buchi d) h = h
-      counted (ahead_is_lem.RabinFin m b) h = h
-      counted (ahead_is_lem.RabinInf m b d) h = counts_needed ns n m b d h
-      counted (ahead_is_lem.StreettFin m u) h = h
-      counted (ahead_is_lem.StreettInf m v) h = h
+      counted ahead_kinds.Lost h = h
+      counted (ahead_kinds.Start d) h = h
+      counted (ahead_kinds.FirstOr o m v) h = h
+      counted (ahead_kinds.Buchi d) h = h
+      counted (ahead_kinds.RabinFin m b) h = h
+      counted (ahead_kinds.RabinInf m b d) h = counts_needed ns n m b d h
+      counted (ahead_kinds.StreettFin m u) h = h
+      counted (ahead_kinds.StreettInf m v) h = h
 
       kept : (x : Ahead) → Bounded n k (stage_is.Operand a) → Bounded (inf_needs n x) (suc k) (stage_is.Named (inf_to c a))
-      kept ahead_is_lem.Lost b = record { pairs = b.pairs; each = λ i. omega (arith, b.each i); ninth = refl }
-      kept (ahead_is_lem.Start d) b = record { pairs = b.pairs; each = λ i. omega (arith, b.each i); ninth = refl }
-      kept (ahead_is_lem.FirstOr o m v) b = record { pairs = b.pairs; each = λ i. omega (arith, b.each i); ninth = refl }
-      kept (ahead_is_lem.Buchi d) b = record { pairs = b.pairs; each = λ i. omega (arith, b.each i); ninth = refl }
-      kept (ahead_is_lem.RabinFin m y) b = record { pairs = b.pairs; each = λ i. omega (arith, b.each i); ninth = refl }
-      kept (ahead_is_lem.RabinInf m y d) b = record { pairs = rw (needed_pairs n) b.pairs; each = needed_each n k b.each; ninth = refl }
-      kept (ahead_is_lem.StreettFin m u) b = record { pairs = b.pairs; each = λ i. omega (arith, b.each i); ninth = refl }
-      kept (ahead_is_lem.StreettInf m v) b = record { pairs = b.pairs; each = λ i. omega (arith, b.each i); ninth = refl }
+      kept ahead_kinds.Lost b = record { pairs = b.pairs; each = λ i. omega (arith, b.each i); ninth = refl }
+      kept (ahead_kinds.Start d) b = record { pairs = b.pairs; each = λ i. omega (arith, b.each i); ninth = refl }
+      kept (ahead_kinds.FirstOr o m v) b = record { pairs = b.pairs; each = λ i. omega (arith, b.each i); ninth = refl }
+      kept (ahead_kinds.Buchi d) b = record { pairs = b.pairs; each = λ i. omega (arith, b.each i); ninth = refl }
+      kept (ahead_kinds.RabinFin m y) b = record { pairs = b.pairs; each = λ i. omega (arith, b.each i); ninth = refl }
+      kept (ahead_kinds.RabinInf m y d) b = record { pairs = rw (needed_pairs n) b.pairs; each = needed_each n k b.each; ninth = refl }
+      kept (ahead_kinds.StreettFin m u) b = record { pairs = b.pairs; each = λ i. omega (arith, b.each i); ninth = refl }
+      kept (ahead_kinds.StreettInf m v) b = record { pairs = b.pairs; each = λ i. omega (arith, b.each i); ninth = refl }
 
   -- Fin
   fin_keeps : (d k : ℕ) (a : Ahead) → ltb k c ≡ true → Keeps c ns n (formula d k (stage_is.Operand a)) piece_is.Fin (formula d (suc k) (stage_is.Named (fin_to a)))
@@ -321,24 +321,24 @@ module _ (c : ℕ) (ns : List ℕ) (n : Needs) where
 
       counted : (x : Ahead) → Counts ns n → leb most_pairs n.pairs && opens_pair_ahead x ≡ false
           → Counts (needs_fin (ahead_is c x).rabin ns) (cond (opens_pair_ahead x) (begun_to n) n)
-      counted ahead_is_lem.Lost h e = h
-      counted (ahead_is_lem.Start d) h e = counts_begun ns n (room e) h
-      counted (ahead_is_lem.FirstOr o m v) h e = counts_begun ns n (room e) h
-      counted (ahead_is_lem.Buchi d) h e = h
-      counted (ahead_is_lem.RabinFin m b) h e = counts_begun ns n (room e) h
-      counted (ahead_is_lem.RabinInf m b d) h e = h
-      counted (ahead_is_lem.StreettFin m u) h e = h
-      counted (ahead_is_lem.StreettInf m v) h e = h
+      counted ahead_kinds.Lost h e = h
+      counted (ahead_kinds.Start d) h e = counts_begun ns n (room e) h
+      counted (ahead_kinds.FirstOr o m v) h e = counts_begun ns n (room e) h
+      counted (ahead_kinds.Buchi d) h e = h
+      counted (ahead_kinds.RabinFin m b) h e = counts_begun ns n (room e) h
+      counted (ahead_kinds.RabinInf m b d) h e = h
+      counted (ahead_kinds.StreettFin m u) h e = h
+      counted (ahead_kinds.StreettInf m v) h e = h
 
       kept : (x : Ahead) → Bounded n k (stage_is.Operand x) → Bounded (cond (opens_pair_ahead x) (begun_to n) n) (suc k) (stage_is.Named (fin_to a))
-      kept ahead_is_lem.Lost b = record { pairs = b.pairs; each = λ i. omega (arith, b.each i); ninth = refl }
-      kept (ahead_is_lem.Start d) b = record { pairs = omega (arith, room b.ninth); each = λ i. omega (arith, b.each i); ninth = refl }
-      kept (ahead_is_lem.FirstOr o m v) b = record { pairs = omega (arith, room b.ninth); each = λ i. omega (arith, b.each i); ninth = refl }
-      kept (ahead_is_lem.Buchi d) b = record { pairs = b.pairs; each = λ i. omega (arith, b.each i); ninth = refl }
-      kept (ahead_is_lem.RabinFin m y) b = record { pairs = omega (arith, room b.ninth); each = λ i. omega (arith, b.each i); ninth = refl }
-      kept (ahead_is_lem.RabinInf m y d) b = record { pairs = b.pairs; each = λ i. omega (arith, b.each i); ninth = refl }
-      kept (ahead_is_lem.StreettFin m u) b = record { pairs = b.pairs; each = λ i. omega (arith, b.each i); ninth = refl }
-      kept (ahead_is_lem.StreettInf m v) b = record { pairs = b.pairs; each = λ i. omega (arith, b.each i); ninth = refl }
+      kept ahead_kinds.Lost b = record { pairs = b.pairs; each = λ i. omega (arith, b.each i); ninth = refl }
+      kept (ahead_kinds.Start d) b = record { pairs = omega (arith, room b.ninth); each = λ i. omega (arith, b.each i); ninth = refl }
+      kept (ahead_kinds.FirstOr o m v) b = record { pairs = omega (arith, room b.ninth); each = λ i. omega (arith, b.each i); ninth = refl }
+      kept (ahead_kinds.Buchi d) b = record { pairs = b.pairs; each = λ i. omega (arith, b.each i); ninth = refl }
+      kept (ahead_kinds.RabinFin m y) b = record { pairs = omega (arith, room b.ninth); each = λ i. omega (arith, b.each i); ninth = refl }
+      kept (ahead_kinds.RabinInf m y d) b = record { pairs = b.pairs; each = λ i. omega (arith, b.each i); ninth = refl }
+      kept (ahead_kinds.StreettFin m u) b = record { pairs = b.pairs; each = λ i. omega (arith, b.each i); ninth = refl }
+      kept (ahead_kinds.StreettInf m v) b = record { pairs = b.pairs; each = λ i. omega (arith, b.each i); ninth = refl }
 
   -- ---- by stages and tokens
 

@@ -9,7 +9,7 @@ use lib.ListN.{length}
 use Rattle.hoa_standard.specs.declared.Piece.{Piece}
 use Rattle.hoa_standard.specs.declared.Piece.TheVariants as piece_is
 use Rattle.hoa_standard.specs.declared.Ahead.{Ahead}
-use Rattle.hoa_standard.specs.declared.Ahead.TheVariants as ahead_is_lem
+use Rattle.hoa_standard.specs.declared.Ahead.TheVariants as ahead_kinds
 use Rattle.hoa_standard.specs.declared.Past.{Past}
 use Rattle.hoa_standard.specs.declared.Past.TheVariants as past_kinds
 use Rattle.hoa_turn.specs.declared.step.Stage.{Stage}
@@ -56,14 +56,14 @@ open_or m v (suc o) false true = refl
 open_or m v (suc o) false false = refl
 
 pub open_is : (c : ℕ) (a : Ahead) → wants_open (ahead_is c a) ≡ ahead_is c (opened_to a)
-open_is c ahead_is_lem.Lost = refl
-open_is c (ahead_is_lem.Start d) = open_start d (eqb (c % 2) 0) (eqb c 2) (eqb c 0)
-open_is c (ahead_is_lem.FirstOr o m v) = open_or m v o (eqb (c % 2) 0) (eqb c 2)
-open_is c (ahead_is_lem.Buchi d) = refl
-open_is c (ahead_is_lem.RabinFin m b) = refl
-open_is c (ahead_is_lem.RabinInf m b d) = refl
-open_is c (ahead_is_lem.StreettFin m u) = refl
-open_is c (ahead_is_lem.StreettInf m v) = refl
+open_is c ahead_kinds.Lost = refl
+open_is c (ahead_kinds.Start d) = open_start d (eqb (c % 2) 0) (eqb c 2) (eqb c 0)
+open_is c (ahead_kinds.FirstOr o m v) = open_or m v o (eqb (c % 2) 0) (eqb c 2)
+open_is c (ahead_kinds.Buchi d) = refl
+open_is c (ahead_kinds.RabinFin m b) = refl
+open_is c (ahead_kinds.RabinInf m b d) = refl
+open_is c (ahead_kinds.StreettFin m u) = refl
+open_is c (ahead_kinds.StreettInf m v) = refl
 
 inf_start : (d : ℕ) (e t : Bool) (z : TruthWants)
     → wants_inf (wants (Buchi.live d) (RabinWants.fin d d) (cond e (StreettWants.fin d d) StreettWants.lost) (cond t (Bare.fin d) Bare.lost) z)
@@ -90,15 +90,15 @@ inf_streett c m v o false true = refl
 inf_streett c m v o false false = refl
 
 pub inf_is : (c : ℕ) (a : Ahead) → wants_inf (ahead_is c a) ≡ past_is c (inf_to c a)
-inf_is c ahead_is_lem.Lost = refl
-inf_is c (ahead_is_lem.Start d) = inf_start d (eqb (c % 2) 0) (eqb c 2) (cond (eqb c 0) (TruthWants.live d) TruthWants.lost)
-inf_is c (ahead_is_lem.FirstOr zero m v) = inf_bare c m v (eqb (c % 2) 0) (eqb c 2)
-inf_is c (ahead_is_lem.FirstOr (suc o) m v) = inf_streett c m v o (eqb (c % 2) 0) (eqb c 2)
-inf_is c (ahead_is_lem.Buchi d) = refl
-inf_is c (ahead_is_lem.RabinFin m b) = refl
-inf_is c (ahead_is_lem.RabinInf m b d) = refl
-inf_is c (ahead_is_lem.StreettFin m u) = refl
-inf_is c (ahead_is_lem.StreettInf m v) = refl
+inf_is c ahead_kinds.Lost = refl
+inf_is c (ahead_kinds.Start d) = inf_start d (eqb (c % 2) 0) (eqb c 2) (cond (eqb c 0) (TruthWants.live d) TruthWants.lost)
+inf_is c (ahead_kinds.FirstOr zero m v) = inf_bare c m v (eqb (c % 2) 0) (eqb c 2)
+inf_is c (ahead_kinds.FirstOr (suc o) m v) = inf_streett c m v o (eqb (c % 2) 0) (eqb c 2)
+inf_is c (ahead_kinds.Buchi d) = refl
+inf_is c (ahead_kinds.RabinFin m b) = refl
+inf_is c (ahead_kinds.RabinInf m b d) = refl
+inf_is c (ahead_kinds.StreettFin m u) = refl
+inf_is c (ahead_kinds.StreettInf m v) = refl
 
 fin_start : (d : ℕ) (e t : Bool) (z : TruthWants)
     → wants_fin (wants (Buchi.live d) (RabinWants.fin d d) (cond e (StreettWants.fin d d) StreettWants.lost) (cond t (Bare.fin d) Bare.lost) z)
@@ -125,16 +125,16 @@ fin_or m v (suc o) false true = refl
 fin_or m v (suc o) false false = refl
 
 pub fin_is : (c : ℕ) (a : Ahead) → wants_fin (ahead_is c a) ≡ past_is c (fin_to a)
-fin_is c ahead_is_lem.Lost = refl
-fin_is c (ahead_is_lem.Start d) = fin_start d (eqb (c % 2) 0) (eqb c 2) (cond (eqb c 0) (TruthWants.live d) TruthWants.lost)
-fin_is c (ahead_is_lem.FirstOr o m v) = fin_or m v o (eqb (c % 2) 0) (eqb c 2)
-fin_is c (ahead_is_lem.Buchi d) = refl
-fin_is c (ahead_is_lem.RabinFin m b) = refl
-fin_is c (ahead_is_lem.RabinInf m b d) = refl
-fin_is c (ahead_is_lem.StreettFin m zero) = refl
-fin_is c (ahead_is_lem.StreettFin zero (suc u)) = refl
-fin_is c (ahead_is_lem.StreettFin (suc m) (suc u)) = refl
-fin_is c (ahead_is_lem.StreettInf m v) = refl
+fin_is c ahead_kinds.Lost = refl
+fin_is c (ahead_kinds.Start d) = fin_start d (eqb (c % 2) 0) (eqb c 2) (cond (eqb c 0) (TruthWants.live d) TruthWants.lost)
+fin_is c (ahead_kinds.FirstOr o m v) = fin_or m v o (eqb (c % 2) 0) (eqb c 2)
+fin_is c (ahead_kinds.Buchi d) = refl
+fin_is c (ahead_kinds.RabinFin m b) = refl
+fin_is c (ahead_kinds.RabinInf m b d) = refl
+fin_is c (ahead_kinds.StreettFin m zero) = refl
+fin_is c (ahead_kinds.StreettFin zero (suc u)) = refl
+fin_is c (ahead_kinds.StreettFin (suc m) (suc u)) = refl
+fin_is c (ahead_kinds.StreettInf m v) = refl
 
 truth_start : (c d : ℕ) (x : Bool) (s : StreettWants) (p : Bare) (z : Bool)
     → wants_truth x (wants (Buchi.live d) (RabinWants.fin d d) s p (cond z (TruthWants.live d) TruthWants.lost))
@@ -143,14 +143,14 @@ truth_start c d x s p true = refl
 truth_start c d x s p false = refl
 
 pub truth_is_lem : (c : ℕ) (x : Bool) (a : Ahead) → wants_truth x (ahead_is c a) ≡ past_is c (truth_to c x a)
-truth_is_lem c x ahead_is_lem.Lost = refl
-truth_is_lem c x (ahead_is_lem.Start d) = truth_start c d x (if_even c (StreettWants.fin d d) StreettWants.lost) (if_two c (Bare.fin d) Bare.lost) (eqb c 0)
-truth_is_lem c x (ahead_is_lem.FirstOr o m v) = refl
-truth_is_lem c x (ahead_is_lem.Buchi d) = refl
-truth_is_lem c x (ahead_is_lem.RabinFin m b) = refl
-truth_is_lem c x (ahead_is_lem.RabinInf m b d) = refl
-truth_is_lem c x (ahead_is_lem.StreettFin m u) = refl
-truth_is_lem c x (ahead_is_lem.StreettInf m v) = refl
+truth_is_lem c x ahead_kinds.Lost = refl
+truth_is_lem c x (ahead_kinds.Start d) = truth_start c d x (if_even c (StreettWants.fin d d) StreettWants.lost) (if_two c (Bare.fin d) Bare.lost) (eqb c 0)
+truth_is_lem c x (ahead_kinds.FirstOr o m v) = refl
+truth_is_lem c x (ahead_kinds.Buchi d) = refl
+truth_is_lem c x (ahead_kinds.RabinFin m b) = refl
+truth_is_lem c x (ahead_kinds.RabinInf m b d) = refl
+truth_is_lem c x (ahead_kinds.StreettFin m u) = refl
+truth_is_lem c x (ahead_kinds.StreettInf m v) = refl
 
 close_none : (e t : Bool)
     → behind_close (behind Buchi.lost (RabinBehind.pair 0 0 0) (cond e StreettBehind.lost StreettBehind.lost) (cond t (Bare.fin 0) Bare.lost) TruthBehind.lost)
@@ -245,14 +245,14 @@ or_is c (past_kinds.Bare x) = refl
 -- ---- some machine goes on
 
 pub some_ahead : (c : ℕ) (a : Ahead) → some_wants (ahead_is c a) ≡ not (is_lost_ahead a)
-some_ahead c ahead_is_lem.Lost = refl
-some_ahead c (ahead_is_lem.Start d) = refl
-some_ahead c (ahead_is_lem.FirstOr o m v) = refl
-some_ahead c (ahead_is_lem.Buchi d) = refl
-some_ahead c (ahead_is_lem.RabinFin m b) = refl
-some_ahead c (ahead_is_lem.RabinInf m b d) = refl
-some_ahead c (ahead_is_lem.StreettFin m u) = refl
-some_ahead c (ahead_is_lem.StreettInf m v) = refl
+some_ahead c ahead_kinds.Lost = refl
+some_ahead c (ahead_kinds.Start d) = refl
+some_ahead c (ahead_kinds.FirstOr o m v) = refl
+some_ahead c (ahead_kinds.Buchi d) = refl
+some_ahead c (ahead_kinds.RabinFin m b) = refl
+some_ahead c (ahead_kinds.RabinInf m b d) = refl
+some_ahead c (ahead_kinds.StreettFin m u) = refl
+some_ahead c (ahead_kinds.StreettInf m v) = refl
 
 pub some_past : (c : ℕ) (p : Past) → some_behind (past_is c p) ≡ not (is_lost_past p)
 some_past c past_kinds.Lost = refl
@@ -267,14 +267,14 @@ some_past c (past_kinds.StreettPair m) = refl
 some_past c (past_kinds.Bare x) = refl
 
 pub opens_is : (c : ℕ) (a : Ahead) → opens_pair (ahead_is c a).rabin ≡ opens_pair_ahead a
-opens_is c ahead_is_lem.Lost = refl
-opens_is c (ahead_is_lem.Start d) = refl
-opens_is c (ahead_is_lem.FirstOr o m v) = refl
-opens_is c (ahead_is_lem.Buchi d) = refl
-opens_is c (ahead_is_lem.RabinFin m b) = refl
-opens_is c (ahead_is_lem.RabinInf m b d) = refl
-opens_is c (ahead_is_lem.StreettFin m u) = refl
-opens_is c (ahead_is_lem.StreettInf m v) = refl
+opens_is c ahead_kinds.Lost = refl
+opens_is c (ahead_kinds.Start d) = refl
+opens_is c (ahead_kinds.FirstOr o m v) = refl
+opens_is c (ahead_kinds.Buchi d) = refl
+opens_is c (ahead_kinds.RabinFin m b) = refl
+opens_is c (ahead_kinds.RabinInf m b d) = refl
+opens_is c (ahead_kinds.StreettFin m u) = refl
+opens_is c (ahead_kinds.StreettInf m v) = refl
 
 -- ---- one token
 

@@ -12,7 +12,7 @@ use types.Run.{OneOf, miss}
 use Rattle.hoa_standard.specs.declared.Piece.{Piece}
 use Rattle.hoa_standard.specs.declared.Piece.TheVariants as piece_is
 use Rattle.hoa_standard.specs.declared.Ahead.{Ahead}
-use Rattle.hoa_standard.specs.declared.Ahead.TheVariants as ahead_is_lem
+use Rattle.hoa_standard.specs.declared.Ahead.TheVariants as ahead_kinds
 use Rattle.hoa_standard.specs.declared.Past.{Past}
 use Rattle.hoa_turn.specs.declared.step.Stage.TheVariants as stage_is
 use Rattle.hoa_turn.specs.declared.step.Turn.TheVariants as turn_is
@@ -28,14 +28,14 @@ abbrev piece_tag : Piece → ℕ
 piece_tag p = Declared.tag_of piece.the_type p
 
 pub others_pair : (a : Ahead) → OneOf (0 ∷ 3 ∷ 5 ∷ 6 ∷ 7 ∷ []) (Declared.tag_of ahead.the_type a) → false ≡ opens_pair_ahead a
-others_pair ahead_is_lem.Lost h = refl
-others_pair (ahead_is_lem.Start d) h = absurd (miss (0 ∷ 3 ∷ 5 ∷ 6 ∷ 7 ∷ []) 1 tt h)
-others_pair (ahead_is_lem.FirstOr o m v) h = absurd (miss (0 ∷ 3 ∷ 5 ∷ 6 ∷ 7 ∷ []) 2 tt h)
-others_pair (ahead_is_lem.Buchi d) h = refl
-others_pair (ahead_is_lem.RabinFin m x) h = absurd (miss (0 ∷ 3 ∷ 5 ∷ 6 ∷ 7 ∷ []) 4 tt h)
-others_pair (ahead_is_lem.RabinInf m x d) h = refl
-others_pair (ahead_is_lem.StreettFin m u) h = refl
-others_pair (ahead_is_lem.StreettInf m v) h = refl
+others_pair ahead_kinds.Lost h = refl
+others_pair (ahead_kinds.Start d) h = absurd (miss (0 ∷ 3 ∷ 5 ∷ 6 ∷ 7 ∷ []) 1 tt h)
+others_pair (ahead_kinds.FirstOr o m v) h = absurd (miss (0 ∷ 3 ∷ 5 ∷ 6 ∷ 7 ∷ []) 2 tt h)
+others_pair (ahead_kinds.Buchi d) h = refl
+others_pair (ahead_kinds.RabinFin m x) h = absurd (miss (0 ∷ 3 ∷ 5 ∷ 6 ∷ 7 ∷ []) 4 tt h)
+others_pair (ahead_kinds.RabinInf m x d) h = refl
+others_pair (ahead_kinds.StreettFin m u) h = refl
+others_pair (ahead_kinds.StreettInf m v) h = refl
 
 pub others_refusal : (p : Piece) → OneOf (0 ∷ 1 ∷ 2 ∷ 3 ∷ 4 ∷ 5 ∷ 6 ∷ 7 ∷ 8 ∷ 9 ∷ 11 ∷ []) (piece_tag p) → 40 ≡ astray p
 others_refusal piece_is.Left h = refl

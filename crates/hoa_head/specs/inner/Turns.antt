@@ -13,7 +13,7 @@ use Rattle.hoa_head.specs.declared.item.Turn.{Turn}
 use Rattle.hoa_head.specs.declared.item.Turn.TheVariants as turn
 use Rattle.hoa_head.specs.declared.item.HeadTurn.{HeadTurn}
 use Rattle.hoa_head.specs.declared.HeadRead.{HeadRead}
-use Rattle.hoa_head.specs.declared.HeadEnd.TheVariants as head_end_lem
+use Rattle.hoa_head.specs.declared.HeadEnd.TheVariants as head_endings
 use Rattle.hoa_value.specs.Head.{blank}
 use Rattle.hoa_value.specs.Heading.{HeadState, items, head_step, on_item}
 use Rattle.hoa_head.specs.Headed.{Ends}
@@ -72,7 +72,7 @@ pub record Opened (text : List ℕ) (p q : ℕ) (h : Head) (k : Header) (r : Hea
 
 -- a refusal of the whole header
 abbrev pub refused_read : ℕ → ℕ → HeadRead
-refused_read n p = record { end = head_end_lem.Refused n p; head = blank }
+refused_read n p = record { end = head_endings.Refused n p; head = blank }
 
 -- how the header ends, from an item on
 pub record ItemsRead (text : List ℕ) (at : ℕ) (r : HeadRead) : Type 0 where

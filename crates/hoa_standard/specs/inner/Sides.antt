@@ -1,7 +1,7 @@
 -- The machines' states that are met together, as the reader keeps them (src/machine.rt): what each stands for, and how each goes on. Assumes nothing.
 use Rattle.std.specs.Prelude.{Bool, true, false, cond, ℕ, zero, suc, ◌%◌, ◌≤◌, eqb}
 use Rattle.hoa_standard.specs.declared.Ahead.{Ahead}
-use Rattle.hoa_standard.specs.declared.Ahead.TheVariants as ahead_is_lem
+use Rattle.hoa_standard.specs.declared.Ahead.TheVariants as ahead_kinds
 use Rattle.hoa_standard.specs.declared.Past.{Past}
 use Rattle.hoa_standard.specs.declared.Past.TheVariants as past_kinds
 use Rattle.hoa_standard.specs.Machines.{Buchi, RabinWants, RabinBehind, StreettWants, StreettBehind, Bare, TruthWants, TruthBehind, Wants, Behind}
@@ -36,21 +36,21 @@ or_bare zero v = Bare.inf v
 or_bare (suc d) v = Bare.lost
 
 abbrev pub ahead_is : ℕ → Ahead → Wants
-ahead_is c ahead_is_lem.Lost = wants Buchi.lost RabinWants.lost StreettWants.lost Bare.lost TruthWants.lost
-ahead_is c (ahead_is_lem.Start d) =
+ahead_is c ahead_kinds.Lost = wants Buchi.lost RabinWants.lost StreettWants.lost Bare.lost TruthWants.lost
+ahead_is c (ahead_kinds.Start d) =
     wants
     (Buchi.live d)
     (RabinWants.fin d d)
     (if_even c (StreettWants.fin d d) StreettWants.lost)
     (if_two c (Bare.fin d) Bare.lost)
     (cond (eqb c 0) (TruthWants.live d) TruthWants.lost)
-ahead_is c (ahead_is_lem.FirstOr o m v) =
+ahead_is c (ahead_kinds.FirstOr o m v) =
     wants Buchi.lost (RabinWants.fin m v) (if_even c (or_streett o v) StreettWants.lost) (if_two c (or_bare o v) Bare.lost) TruthWants.lost
-ahead_is c (ahead_is_lem.Buchi d) = wants (Buchi.live d) RabinWants.lost StreettWants.lost Bare.lost TruthWants.lost
-ahead_is c (ahead_is_lem.RabinFin m b) = wants Buchi.lost (RabinWants.fin m b) StreettWants.lost Bare.lost TruthWants.lost
-ahead_is c (ahead_is_lem.RabinInf m b d) = wants Buchi.lost (RabinWants.inf m b d) StreettWants.lost Bare.lost TruthWants.lost
-ahead_is c (ahead_is_lem.StreettFin m u) = wants Buchi.lost RabinWants.lost (StreettWants.fin m u) Bare.lost TruthWants.lost
-ahead_is c (ahead_is_lem.StreettInf m v) = wants Buchi.lost RabinWants.lost (StreettWants.inf m v) Bare.lost TruthWants.lost
+ahead_is c (ahead_kinds.Buchi d) = wants (Buchi.live d) RabinWants.lost StreettWants.lost Bare.lost TruthWants.lost
+ahead_is c (ahead_kinds.RabinFin m b) = wants Buchi.lost (RabinWants.fin m b) StreettWants.lost Bare.lost TruthWants.lost
+ahead_is c (ahead_kinds.RabinInf m b d) = wants Buchi.lost (RabinWants.inf m b d) StreettWants.lost Bare.lost TruthWants.lost
+ahead_is c (ahead_kinds.StreettFin m u) = wants Buchi.lost RabinWants.lost (StreettWants.fin m u) Bare.lost TruthWants.lost
+ahead_is c (ahead_kinds.StreettInf m v) = wants Buchi.lost RabinWants.lost (StreettWants.inf m v) Bare.lost TruthWants.lost
 
 abbrev pub past_is : ℕ → Past → Behind
 past_is c past_kinds.Lost = behind Buchi.lost RabinBehind.lost StreettBehind.lost Bare.lost TruthBehind.lost
@@ -72,14 +72,14 @@ abbrev pub bracket_room : ℕ
 bracket_room = 18446744073709551615
 
 abbrev pub AheadWithin : ℕ → Ahead → Type 0
-AheadWithin k ahead_is_lem.Lost = Unit
-AheadWithin k (ahead_is_lem.Start d) = d ≤ k
-AheadWithin k (ahead_is_lem.FirstOr o m v) = (o ≤ k) × (m ≤ k) × (v ≤ k)
-AheadWithin k (ahead_is_lem.Buchi d) = d ≤ k
-AheadWithin k (ahead_is_lem.RabinFin m b) = (m ≤ k) × (b ≤ k)
-AheadWithin k (ahead_is_lem.RabinInf m b d) = (m ≤ k) × (b ≤ k) × (d ≤ k)
-AheadWithin k (ahead_is_lem.StreettFin m u) = (m ≤ k) × (u ≤ k)
-AheadWithin k (ahead_is_lem.StreettInf m v) = (m ≤ k) × (v ≤ k)
+AheadWithin k ahead_kinds.Lost = Unit
+AheadWithin k (ahead_kinds.Start d) = d ≤ k
+AheadWithin k (ahead_kinds.FirstOr o m v) = (o ≤ k) × (m ≤ k) × (v ≤ k)
+AheadWithin k (ahead_kinds.Buchi d) = d ≤ k
+AheadWithin k (ahead_kinds.RabinFin m b) = (m ≤ k) × (b ≤ k)
+AheadWithin k (ahead_kinds.RabinInf m b d) = (m ≤ k) × (b ≤ k) × (d ≤ k)
+AheadWithin k (ahead_kinds.StreettFin m u) = (m ≤ k) × (u ≤ k)
+AheadWithin k (ahead_kinds.StreettInf m v) = (m ≤ k) × (v ≤ k)
 
 abbrev pub PastWithin : ℕ → Past → Type 0
 PastWithin k past_kinds.Lost = Unit
@@ -97,14 +97,14 @@ PastWithin k (past_kinds.Bare x) = x ≤ k
 
 -- `(`
 abbrev pub opened_to : Ahead → Ahead
-opened_to ahead_is_lem.Lost = ahead_is_lem.Lost
-opened_to (ahead_is_lem.Start d) = ahead_is_lem.Start (suc d)
-opened_to (ahead_is_lem.FirstOr o m v) = ahead_is_lem.FirstOr o (suc m) (suc v)
-opened_to (ahead_is_lem.Buchi d) = ahead_is_lem.Buchi (suc d)
-opened_to (ahead_is_lem.RabinFin m b) = ahead_is_lem.RabinFin (suc m) (suc b)
-opened_to (ahead_is_lem.RabinInf m b d) = ahead_is_lem.RabinInf m b (suc d)
-opened_to (ahead_is_lem.StreettFin m u) = ahead_is_lem.StreettFin (suc m) (suc u)
-opened_to (ahead_is_lem.StreettInf m v) = ahead_is_lem.StreettInf m (suc v)
+opened_to ahead_kinds.Lost = ahead_kinds.Lost
+opened_to (ahead_kinds.Start d) = ahead_kinds.Start (suc d)
+opened_to (ahead_kinds.FirstOr o m v) = ahead_kinds.FirstOr o (suc m) (suc v)
+opened_to (ahead_kinds.Buchi d) = ahead_kinds.Buchi (suc d)
+opened_to (ahead_kinds.RabinFin m b) = ahead_kinds.RabinFin (suc m) (suc b)
+opened_to (ahead_kinds.RabinInf m b d) = ahead_kinds.RabinInf m b (suc d)
+opened_to (ahead_kinds.StreettFin m u) = ahead_kinds.StreettFin (suc m) (suc u)
+opened_to (ahead_kinds.StreettInf m v) = ahead_kinds.StreettInf m (suc v)
 
 -- Inf behind the first `|`: a Streett pair in its bracket, or a bare pair
 abbrev pub first_pair : ℕ → ℕ → ℕ → Past
@@ -113,14 +113,14 @@ first_pair c (suc o) v = if_even c (past_kinds.StreettInf o v) past_kinds.Lost
 
 -- Inf
 abbrev pub inf_to : ℕ → Ahead → Past
-inf_to c ahead_is_lem.Lost = past_kinds.Lost
-inf_to c (ahead_is_lem.Start d) = past_kinds.Buchi d
-inf_to c (ahead_is_lem.FirstOr o m v) = first_pair c o v
-inf_to c (ahead_is_lem.Buchi d) = past_kinds.Buchi d
-inf_to c (ahead_is_lem.RabinFin m b) = past_kinds.Lost
-inf_to c (ahead_is_lem.RabinInf m b d) = past_kinds.RabinPair m b d
-inf_to c (ahead_is_lem.StreettFin m u) = past_kinds.Lost
-inf_to c (ahead_is_lem.StreettInf m v) = past_kinds.StreettInf m v
+inf_to c ahead_kinds.Lost = past_kinds.Lost
+inf_to c (ahead_kinds.Start d) = past_kinds.Buchi d
+inf_to c (ahead_kinds.FirstOr o m v) = first_pair c o v
+inf_to c (ahead_kinds.Buchi d) = past_kinds.Buchi d
+inf_to c (ahead_kinds.RabinFin m b) = past_kinds.Lost
+inf_to c (ahead_kinds.RabinInf m b d) = past_kinds.RabinPair m b d
+inf_to c (ahead_kinds.StreettFin m u) = past_kinds.Lost
+inf_to c (ahead_kinds.StreettInf m v) = past_kinds.StreettInf m v
 
 -- a Streett pair's Fin stands in its bracket
 abbrev pub streett_past : ℕ → ℕ → Past
@@ -130,25 +130,25 @@ streett_past (suc m) (suc u) = past_kinds.StreettFin m u
 
 -- Fin
 abbrev pub fin_to : Ahead → Past
-fin_to ahead_is_lem.Lost = past_kinds.Lost
-fin_to (ahead_is_lem.Start d) = past_kinds.FirstFin d
-fin_to (ahead_is_lem.FirstOr o m v) = past_kinds.RabinPair m v 0
-fin_to (ahead_is_lem.Buchi d) = past_kinds.Lost
-fin_to (ahead_is_lem.RabinFin m b) = past_kinds.RabinPair m b 0
-fin_to (ahead_is_lem.RabinInf m b d) = past_kinds.Lost
-fin_to (ahead_is_lem.StreettFin m u) = streett_past m u
-fin_to (ahead_is_lem.StreettInf m v) = past_kinds.Lost
+fin_to ahead_kinds.Lost = past_kinds.Lost
+fin_to (ahead_kinds.Start d) = past_kinds.FirstFin d
+fin_to (ahead_kinds.FirstOr o m v) = past_kinds.RabinPair m v 0
+fin_to (ahead_kinds.Buchi d) = past_kinds.Lost
+fin_to (ahead_kinds.RabinFin m b) = past_kinds.RabinPair m b 0
+fin_to (ahead_kinds.RabinInf m b d) = past_kinds.Lost
+fin_to (ahead_kinds.StreettFin m u) = streett_past m u
+fin_to (ahead_kinds.StreettInf m v) = past_kinds.Lost
 
 -- `t`, `f`
 abbrev pub truth_to : ℕ → Bool → Ahead → Past
-truth_to c b ahead_is_lem.Lost = past_kinds.Lost
-truth_to c b (ahead_is_lem.Start d) = cond (eqb c 0) (past_kinds.Truth b d) past_kinds.Lost
-truth_to c b (ahead_is_lem.FirstOr o m v) = past_kinds.Lost
-truth_to c b (ahead_is_lem.Buchi d) = past_kinds.Lost
-truth_to c b (ahead_is_lem.RabinFin m x) = past_kinds.Lost
-truth_to c b (ahead_is_lem.RabinInf m x d) = past_kinds.Lost
-truth_to c b (ahead_is_lem.StreettFin m u) = past_kinds.Lost
-truth_to c b (ahead_is_lem.StreettInf m v) = past_kinds.Lost
+truth_to c b ahead_kinds.Lost = past_kinds.Lost
+truth_to c b (ahead_kinds.Start d) = cond (eqb c 0) (past_kinds.Truth b d) past_kinds.Lost
+truth_to c b (ahead_kinds.FirstOr o m v) = past_kinds.Lost
+truth_to c b (ahead_kinds.Buchi d) = past_kinds.Lost
+truth_to c b (ahead_kinds.RabinFin m x) = past_kinds.Lost
+truth_to c b (ahead_kinds.RabinInf m x d) = past_kinds.Lost
+truth_to c b (ahead_kinds.StreettFin m u) = past_kinds.Lost
+truth_to c b (ahead_kinds.StreettInf m v) = past_kinds.Lost
 
 -- `)`
 abbrev pub closed_pair : ℕ → ℕ → ℕ → Past
@@ -181,40 +181,40 @@ closed_to (past_kinds.Bare (suc x)) = past_kinds.Bare x
 
 -- `&`
 abbrev pub and_to : Past → Ahead
-and_to past_kinds.Lost = ahead_is_lem.Lost
-and_to (past_kinds.Truth b d) = ahead_is_lem.Lost
-and_to (past_kinds.Buchi d) = ahead_is_lem.Buchi d
-and_to (past_kinds.FirstFin d) = ahead_is_lem.RabinInf d d 0
-and_to (past_kinds.RabinPair m b d) = ahead_is_lem.RabinInf m b d
-and_to (past_kinds.RabinGroup m) = ahead_is_lem.Lost
-and_to (past_kinds.StreettFin m u) = ahead_is_lem.Lost
-and_to (past_kinds.StreettInf m v) = ahead_is_lem.Lost
-and_to (past_kinds.StreettPair m) = ahead_is_lem.StreettFin m 0
-and_to (past_kinds.Bare x) = ahead_is_lem.Lost
+and_to past_kinds.Lost = ahead_kinds.Lost
+and_to (past_kinds.Truth b d) = ahead_kinds.Lost
+and_to (past_kinds.Buchi d) = ahead_kinds.Buchi d
+and_to (past_kinds.FirstFin d) = ahead_kinds.RabinInf d d 0
+and_to (past_kinds.RabinPair m b d) = ahead_kinds.RabinInf m b d
+and_to (past_kinds.RabinGroup m) = ahead_kinds.Lost
+and_to (past_kinds.StreettFin m u) = ahead_kinds.Lost
+and_to (past_kinds.StreettInf m v) = ahead_kinds.Lost
+and_to (past_kinds.StreettPair m) = ahead_kinds.StreettFin m 0
+and_to (past_kinds.Bare x) = ahead_kinds.Lost
 
 -- `|`
 abbrev pub or_to : Past → Ahead
-or_to past_kinds.Lost = ahead_is_lem.Lost
-or_to (past_kinds.Truth b d) = ahead_is_lem.Lost
-or_to (past_kinds.Buchi d) = ahead_is_lem.Lost
-or_to (past_kinds.FirstFin d) = ahead_is_lem.FirstOr d d 0
-or_to (past_kinds.RabinPair m b zero) = ahead_is_lem.RabinFin m 0
-or_to (past_kinds.RabinPair m b (suc d)) = ahead_is_lem.Lost
-or_to (past_kinds.RabinGroup m) = ahead_is_lem.RabinFin m 0
-or_to (past_kinds.StreettFin m u) = ahead_is_lem.StreettInf m 0
-or_to (past_kinds.StreettInf m v) = ahead_is_lem.Lost
-or_to (past_kinds.StreettPair m) = ahead_is_lem.Lost
-or_to (past_kinds.Bare x) = ahead_is_lem.Lost
+or_to past_kinds.Lost = ahead_kinds.Lost
+or_to (past_kinds.Truth b d) = ahead_kinds.Lost
+or_to (past_kinds.Buchi d) = ahead_kinds.Lost
+or_to (past_kinds.FirstFin d) = ahead_kinds.FirstOr d d 0
+or_to (past_kinds.RabinPair m b zero) = ahead_kinds.RabinFin m 0
+or_to (past_kinds.RabinPair m b (suc d)) = ahead_kinds.Lost
+or_to (past_kinds.RabinGroup m) = ahead_kinds.RabinFin m 0
+or_to (past_kinds.StreettFin m u) = ahead_kinds.StreettInf m 0
+or_to (past_kinds.StreettInf m v) = ahead_kinds.Lost
+or_to (past_kinds.StreettPair m) = ahead_kinds.Lost
+or_to (past_kinds.Bare x) = ahead_kinds.Lost
 
 abbrev pub is_lost_ahead : Ahead → Bool
-is_lost_ahead ahead_is_lem.Lost = true
-is_lost_ahead (ahead_is_lem.Start d) = false
-is_lost_ahead (ahead_is_lem.FirstOr o m v) = false
-is_lost_ahead (ahead_is_lem.Buchi d) = false
-is_lost_ahead (ahead_is_lem.RabinFin m b) = false
-is_lost_ahead (ahead_is_lem.RabinInf m b d) = false
-is_lost_ahead (ahead_is_lem.StreettFin m u) = false
-is_lost_ahead (ahead_is_lem.StreettInf m v) = false
+is_lost_ahead ahead_kinds.Lost = true
+is_lost_ahead (ahead_kinds.Start d) = false
+is_lost_ahead (ahead_kinds.FirstOr o m v) = false
+is_lost_ahead (ahead_kinds.Buchi d) = false
+is_lost_ahead (ahead_kinds.RabinFin m b) = false
+is_lost_ahead (ahead_kinds.RabinInf m b d) = false
+is_lost_ahead (ahead_kinds.StreettFin m u) = false
+is_lost_ahead (ahead_kinds.StreettInf m v) = false
 
 abbrev pub is_lost_past : Past → Bool
 is_lost_past past_kinds.Lost = true

@@ -6,7 +6,7 @@ use Rattle.hoa_tokens.specs.declared.Found.{Found}
 use Rattle.hoa_tokens.specs.declared.bytes.Class.{Class}
 use Rattle.hoa_tokens.specs.declared.bytes.Class.TheVariants as class_is
 use Rattle.hoa_tokens.specs.declared.gap.Ahead.{Ahead}
-use Rattle.hoa_tokens.specs.declared.gap.Ahead.TheVariants as ahead_is_lem
+use Rattle.hoa_tokens.specs.declared.gap.Ahead.TheVariants as ahead_kinds
 use Rattle.hoa_tokens.specs.declared.gap.Comment.{Comment}
 use Rattle.hoa_tokens.specs.declared.gap.Comment.TheVariants as comment_is
 use Rattle.hoa_tokens.specs.declared.gap.Hop.{Hop}
@@ -83,8 +83,8 @@ gap_from text at depth = behind at (gap_of (drop at text) depth)
 
 -- the gap that is ahead
 abbrev pub ahead_gap : Ahead → Gap
-ahead_gap (ahead_is_lem.Clear i) = gap i
-ahead_gap (ahead_is_lem.Unclosed i) = unclosed i
+ahead_gap (ahead_kinds.Clear i) = gap i
+ahead_gap (ahead_kinds.Unclosed i) = unclosed i
 
 -- at a place in a comment, where so many are open
 pub record Inside (text : List ℕ) (at depth : ℕ) : Type 0 where

@@ -3,7 +3,7 @@ use Rattle.std.specs.Prelude.{Bool, false, cond, ◌&&◌, List, ◌≡◌, ℕ,
 use Rattle.hoa_standard.specs.declared.Piece.{Piece}
 use Rattle.hoa_standard.specs.declared.Piece.TheVariants as piece_is
 use Rattle.hoa_standard.specs.declared.Ahead.{Ahead}
-use Rattle.hoa_standard.specs.declared.Ahead.TheVariants as ahead_is_lem
+use Rattle.hoa_standard.specs.declared.Ahead.TheVariants as ahead_kinds
 use Rattle.hoa_turn.specs.declared.step.Stage.{Stage}
 use Rattle.hoa_turn.specs.declared.step.Stage.TheVariants as stage_is
 use Rattle.hoa_turn.specs.declared.needs.Needs.{Needs}
@@ -48,14 +48,14 @@ abbrev pub begun_to : Needs → Needs
 begun_to n = tally (n.pairs + 1) n.needs
 
 abbrev pub inf_needs : Needs → Ahead → Needs
-inf_needs n ahead_is_lem.Lost = n
-inf_needs n (ahead_is_lem.Start d) = n
-inf_needs n (ahead_is_lem.FirstOr o m v) = n
-inf_needs n (ahead_is_lem.Buchi d) = n
-inf_needs n (ahead_is_lem.RabinFin m b) = n
-inf_needs n (ahead_is_lem.RabinInf m b d) = needed_to n
-inf_needs n (ahead_is_lem.StreettFin m u) = n
-inf_needs n (ahead_is_lem.StreettInf m v) = n
+inf_needs n ahead_kinds.Lost = n
+inf_needs n (ahead_kinds.Start d) = n
+inf_needs n (ahead_kinds.FirstOr o m v) = n
+inf_needs n (ahead_kinds.Buchi d) = n
+inf_needs n (ahead_kinds.RabinFin m b) = n
+inf_needs n (ahead_kinds.RabinInf m b d) = needed_to n
+inf_needs n (ahead_kinds.StreettFin m u) = n
+inf_needs n (ahead_kinds.StreettInf m v) = n
 
 abbrev pub operand_needs : Needs → Ahead → Piece → Needs
 operand_needs n a piece_is.Left = n

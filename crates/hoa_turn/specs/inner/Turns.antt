@@ -3,7 +3,7 @@ use Rattle.std.specs.Prelude.{Bool, true, false, cond, ◌&&◌, List, ℕ, zero
 use Rattle.hoa_standard.specs.declared.Piece.{Piece}
 use Rattle.hoa_standard.specs.declared.Piece.TheVariants as piece_is
 use Rattle.hoa_standard.specs.declared.Ahead.{Ahead}
-use Rattle.hoa_standard.specs.declared.Ahead.TheVariants as ahead_is_lem
+use Rattle.hoa_standard.specs.declared.Ahead.TheVariants as ahead_kinds
 use Rattle.hoa_standard.specs.declared.Past.{Past}
 use Rattle.hoa_turn.specs.declared.step.Stage.{Stage}
 use Rattle.hoa_turn.specs.declared.step.Stage.TheVariants as stage_is
@@ -50,14 +50,14 @@ abbrev pub formula : ℕ → ℕ → Stage → Formula
 formula d n g = record { depth = d; atoms = n; stage = g }
 
 abbrev pub opens_pair_ahead : Ahead → Bool
-opens_pair_ahead ahead_is_lem.Lost = false
-opens_pair_ahead (ahead_is_lem.Start d) = true
-opens_pair_ahead (ahead_is_lem.FirstOr o m v) = true
-opens_pair_ahead (ahead_is_lem.Buchi d) = false
-opens_pair_ahead (ahead_is_lem.RabinFin m b) = true
-opens_pair_ahead (ahead_is_lem.RabinInf m b d) = false
-opens_pair_ahead (ahead_is_lem.StreettFin m u) = false
-opens_pair_ahead (ahead_is_lem.StreettInf m v) = false
+opens_pair_ahead ahead_kinds.Lost = false
+opens_pair_ahead (ahead_kinds.Start d) = true
+opens_pair_ahead (ahead_kinds.FirstOr o m v) = true
+opens_pair_ahead (ahead_kinds.Buchi d) = false
+opens_pair_ahead (ahead_kinds.RabinFin m b) = true
+opens_pair_ahead (ahead_kinds.RabinInf m b d) = false
+opens_pair_ahead (ahead_kinds.StreettFin m u) = false
+opens_pair_ahead (ahead_kinds.StreettInf m v) = false
 
 abbrev pub go_ahead : ℕ → ℕ → Ahead → ℕ → Turn
 go_ahead d n a p =

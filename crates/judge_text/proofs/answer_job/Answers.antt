@@ -13,5 +13,4 @@ show-requires c =
 pub returns : goal.returns
 returns c =
     let judged = c.judge-answer in
-    let lent = judged.new.room in
-    record { answer = judged.result; room = lent.0; scratch = lent.1.0; allowed = judged.ensures; held = c.show.ensures }
+    record { answer = judged.result; room = judged.new.room; scratch = judged.new.scratch; allowed = judged.ensures; held = c.show.ensures }

@@ -17,7 +17,7 @@
  * Threads: calls may run at the same time. Tables and needs are only read and may be shared; room, scratch and outputs may not.
  * Platform: x86-64 Linux, the C calling convention there; of the C library only memset is used.
  *
- * Link with target/staticlib/libmukhadero.a: a release has it, and in the sources `rt staticlib mukhadero` makes it. mukhadero.pc, in
+ * Link with target/staticlib/libmukhadero.a: a release has it, and in the sources `tools/build mukhadero` makes it. mukhadero.pc, in
  * the root of both, is for pkg-config.
  */
 #ifndef MUKHADERO_H

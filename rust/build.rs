@@ -23,7 +23,7 @@ fn main() {
     }
     let Ok(library) = library.canonicalize() else {
         panic!(
-            "{} is not there: run `rt staticlib mukhadero` in the root of the repository, or set MUKHADERO_LIB_DIR to the \
+            "{} is not there: run `tools/build mukhadero` in the root of the repository, or set MUKHADERO_LIB_DIR to the \
              directory that holds {file}",
             library.display()
         );

@@ -74,11 +74,12 @@ def quickest(start):
 # ---- a tree of its own -----------------------------------------------------------------------------------------------------------------
 
 RT = """#!/bin/sh
-# stands in for rt: notes that it was called, and puts the program that is given to it in place
-echo "$@" >> "$CALLS"
+# stands in for rt: notes that it was called and in which crate, and puts the program that is given to it in place
+name=$(basename "$PWD")
+echo "$@" "$name" >> "$CALLS"
 sh "$WHILE_BUILDING"
-[ -e "$PROGRAM" ] || { echo "$2: NOT PROVED"; exit 1; }
-mkdir -p target/bin && cp "$PROGRAM" "target/bin/$2.new" && mv "target/bin/$2.new" "target/bin/$2"
+[ -e "$PROGRAM" ] || { echo "$name: NOT PROVED"; exit 1; }
+mkdir -p out && cp "$PROGRAM" "out/$name.new" && mv "out/$name.new" "out/$name"
 """
 
 
@@ -90,7 +91,7 @@ class Tree:
         shutil.copytree(ROOT / "tools", self.root / "tools")
         self.launcher = self.root / "tools" / launcher
         (self.root / "crates.txt").write_text(f"# crates\n{launcher}: job_text io\njob_text: marks\nmarks:\nother: marks\n")
-        for file in (f"{launcher}/src/main.rt", f"{launcher}/stdout", "job_text/src/lib.rt", "job_text/must-fail/one.edit", "marks/proofs/Lib.antt", "other/src/lib.rt"):
+        for file in (f"{launcher}/src/main.rt", f"{launcher}/stdout", "job_text/src/lib.rt", "job_text/must-fail/one.edit", "job_text/out/kept", "marks/proofs/Lib.antt", "other/src/lib.rt"):
             (self.root / "crates" / file).parent.mkdir(parents=True, exist_ok=True)
             (self.root / "crates" / file).write_text("some text\n")
         bin_ = folder / "bin"

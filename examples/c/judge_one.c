@@ -1,5 +1,5 @@
 /* Two benches and one barcode: is there a shift in which both marks come round for ever? From the root of a release, or of the sources
- * after `rt staticlib mukhadero`:
+ * after `tools/build mukhadero`:
  *   cc -Iinclude examples/c/judge_one.c target/staticlib/libmukhadero.a -o target/judge_one && target/judge_one
  */
 #include <stdio.h>

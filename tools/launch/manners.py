@@ -27,6 +27,9 @@ PATIENCE = 2  # seconds after which it is said that a build goes on
 BUILDS = "The first call proves and builds the program, which takes some minutes; so does the first call after a change of its sources.\n"
 NAMES = "A file whose name begins with - is given as ./-NAME.\n"
 
+ARCHIVE = "mukhadero"  # the crate that is built as an archive, and not as a program
+OWN = ("must-fail", "out")  # of a crate's folder: what no program is made from
+
 FIRST = 12_288  # the bytes of an input by which its form is told
 
 # A form of input. `program`: the crate that takes it; `longest`: the most bytes that the program takes; `read_answer` takes the input and what the program wrote, and
@@ -108,7 +111,7 @@ def write_output(output):
 
 def crates_of(program):
     """The program's crate and all of this repository that it stands on."""
-    listed = dict(re.findall(r"^(\w+):([^#\n]*)", (ROOT / "crates.txt").read_text(), re.M))
+    listed = dict(re.findall(r"^(\w+)(?: staticlib)?:([^#\n]*)", (ROOT / "crates.txt").read_text(), re.M))
     found, left = set(), [program]
     while left:
         crate = left.pop()
@@ -121,7 +124,7 @@ def crates_of(program):
 def files_under(folder):
     for entry in sorted(os.scandir(folder), key=lambda entry: entry.name):
         if entry.is_dir(follow_symlinks=False):
-            if entry.name != "must-fail":
+            if entry.name not in OWN:
                 yield from files_under(entry.path)
         else:
             yield entry.path
@@ -141,8 +144,9 @@ def state_of_sources(program):
 
 
 def paths(program):
-    """The program, and the note of what it was built from: the state of the sources, then its own."""
-    return ROOT / "target" / "bin" / program, ROOT / "target" / "launch" / program
+    """The program (or the archive), and the note of what it was built from: the state of the sources, then its own."""
+    built = f"staticlib/lib{program}.a" if program == ARCHIVE else f"bin/{program}"
+    return ROOT / "target" / built, ROOT / "target" / "launch" / program
 
 
 def is_fresh(program, sources):
@@ -156,7 +160,7 @@ def is_fresh(program, sources):
 def write_note(program, sources):
     built, note = paths(program)
     try:
-        note.parent.mkdir(exist_ok=True)
+        note.parent.mkdir(parents=True, exist_ok=True)
         new = note.with_name(f"{program}.{os.getpid()}")
         new.write_text(f"{sources} {state_of([built])}\n")
         new.replace(note)
@@ -165,7 +169,7 @@ def write_note(program, sources):
 
 
 def built_program(program, say):
-    """The program, built anew (`rt check`) unless it was built from the sources as they are. Rt itself goes by what the files hold: it proves nothing twice."""
+    """The program, built anew (`rt run`) unless it was built from the sources as they are. Rt itself goes by what the files hold: it proves nothing twice."""
     if RELEASED or is_fresh(program, state_of_sources(program)):
         return paths(program)[0]
     with open(ROOT / "crates.txt") as lock:  # one build at a time, whoever starts it
@@ -182,9 +186,12 @@ def built_program(program, say):
 
 
 def build(program, say):
-    command = ["rt", "check", program]
+    """Has rt prove and build the program in its crate's folder (`rt run` then runs it too, on an empty input), and puts what was built where it is looked for."""
+    command, folder = ["rt", "lib" if program == ARCHIVE else "run"], ROOT / "crates" / program
+    place = paths(program)[0]
+    made = folder / "out" / place.name
     try:
-        rt = subprocess.Popen(command, cwd=ROOT, stdin=subprocess.DEVNULL, stdout=subprocess.PIPE, stderr=subprocess.STDOUT)
+        rt = subprocess.Popen(command, cwd=folder, stdin=subprocess.DEVNULL, stdout=subprocess.PIPE, stderr=subprocess.STDOUT)
     except OSError as error:
         raise NoAnswer(f"{program} must be built from its sources, and `rt` of the Rattle kit can't be run: {error.strerror}") from None
     try:
@@ -192,12 +199,17 @@ def build(program, say):
     except subprocess.TimeoutExpired:
         say("proving and building the program; this takes some minutes ..")
         said = rt.communicate()[0]
-    if rt.returncode != 0 or not paths(program)[0].exists():
+    if rt.returncode != 0 or not made.exists():
         try:
             os.write(2, said)
         except OSError:
             pass
-        raise NoAnswer(f"{program} is not built: `{' '.join(command)}` failed with the lines above")
+        raise NoAnswer(f"{program} is not built: `{' '.join(command)}` in crates/{program} failed with the lines above")
+    place.parent.mkdir(parents=True, exist_ok=True)
+    new = place.with_name(f"{place.name}.{os.getpid()}")
+    new.write_bytes(made.read_bytes())
+    new.chmod(made.stat().st_mode)
+    new.replace(place)
 
 
 def run(path, text):

@@ -4,7 +4,7 @@
 #![tactic(auto)]
 
 ghost use Rattle.std.specs.Prelude.{◌≡◌};
-ghost use Rattle.check_text.specs.CheckReplied.{CheckReplied};
+ghost use Rattle.check_text.specs.Replied.{CheckReplied};
 ghost use Rattle.text_input.specs.Served.{Served, Wrote};
 
 use check_text::{MOST_CHECKED, check_text};

@@ -1,7 +1,7 @@
 -- `line::end_line` meets its contract: 21 where the line is not found, then 22 where its value is not `job`. Assumes nothing.
 use mathlib.Core.Path.{refl, subst}
 use borrow.Author.Tests.{not-true, not-false}
-use Rattle.job_values.specs.inner.Told.{Unformed, EndAt}
+use Rattle.job_values.specs.inner.Told.{EndAt}
 use Rattle.job_text.specs.Value.{end}
 use Rattle.job_text.specs.Job.{unlimited, end=}
 use Rattle.job_text.proofs.Lines.{wrong_fits, asked_missing, asked_malformed, asked_says}
@@ -16,33 +16,17 @@ returns-then-not-span c =
 pub read_end-requires : goal.read_end-requires
 read_end-requires c = (c.find_line-span.ensures.there (not-false _ c.if-not-span.false)).within
 
--- a value that is not of the form
-no_value : (c : goal.In-Wrong)
-    → let f = c.find_line-span in
-    Unformed end c.args.text.now f.result.from f.result.end c.in-Wrong.wrong
-no_value c =
-    let f = c.find_line-span in
-    subst (EndAt c.args.text.now f.result.from f.result.end) c.in-Wrong.is c.read_end.ensures
-
--- a value that is not of the form
-no_value_2 : (c : goal.After-fault_at)
-    → let f = c.find_line-span in
-    Unformed end c.args.text.now f.result.from f.result.end c.in-Wrong.wrong
-no_value_2 c =
-    let f = c.find_line-span in
-    subst (EndAt c.args.text.now f.result.from f.result.end) c.in-Wrong.is c.read_end.ensures
-
 pub fault_at-requires : goal.fault_at-requires
 fault_at-requires c =
     let a = c.args in
     let f = c.find_line-span in
-    wrong_fits a.text.now a.at end= f.result f.ensures end _ (not-false _ c.if-not-span.false) (no_value c)
+    wrong_fits a.text.now a.at end= f.result f.ensures end _ (not-false _ c.if-not-span.false) (subst (EndAt a.text.now f.result.from f.result.end) c.in-Wrong.is c.read_end.ensures)
 
 pub returns-in-Wrong : goal.returns-in-Wrong
 returns-in-Wrong c =
     let a = c.args in
     let f = c.find_line-span in
-    asked_malformed a.text.now a.at end= f.result f.ensures end unlimited a.line c.fault_at.result (not-false _ c.if-not-span.false) _ (no_value_2 c) c.fault_at.ensures
+    asked_malformed a.text.now a.at end= f.result f.ensures end unlimited a.line c.fault_at.result (not-false _ c.if-not-span.false) _ (subst (EndAt a.text.now f.result.from f.result.end) c.in-Wrong.is c.read_end.ensures) c.fault_at.ensures
 
 pub returns-in-Right : goal.returns-in-Right
 returns-in-Right c =

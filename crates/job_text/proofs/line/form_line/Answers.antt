@@ -1,7 +1,7 @@
 -- `line::form_line` meets its contract: where the key is not there the form is 1 and the line stays; else 22 by the form's reader. Assumes nothing.
 use mathlib.Core.Path.{subst}
 use borrow.Author.Tests.{not-true, not-false}
-use Rattle.job_values.specs.inner.Told.{Unformed, FormAt}
+use Rattle.job_values.specs.inner.Told.{FormAt}
 use Rattle.job_values.specs.declared.value.Form.TheVariants.{One}
 use Rattle.job_text.specs.Value.{text_form}
 use Rattle.job_text.specs.Job.{form=}
@@ -17,33 +17,17 @@ returns-then-not-span c =
 pub read_form-requires : goal.read_form-requires
 read_form-requires c = (c.find_line-span.ensures.there (not-false _ c.if-not-span.false)).within
 
--- a value that is not of the form
-no_value : (c : goal.In-Wrong)
-    → let f = c.find_line-span in
-    Unformed text_form c.args.text.now f.result.from f.result.end c.in-Wrong.wrong
-no_value c =
-    let f = c.find_line-span in
-    subst (FormAt c.args.text.now f.result.from f.result.end) c.in-Wrong.is c.read_form.ensures
-
--- a value that is not of the form
-no_value_2 : (c : goal.After-fault_at)
-    → let f = c.find_line-span in
-    Unformed text_form c.args.text.now f.result.from f.result.end c.in-Wrong.wrong
-no_value_2 c =
-    let f = c.find_line-span in
-    subst (FormAt c.args.text.now f.result.from f.result.end) c.in-Wrong.is c.read_form.ensures
-
 pub fault_at-requires : goal.fault_at-requires
 fault_at-requires c =
     let a = c.args in
     let f = c.find_line-span in
-    wrong_fits a.text.now 0 form= f.result f.ensures text_form _ (not-false _ c.if-not-span.false) (no_value c)
+    wrong_fits a.text.now 0 form= f.result f.ensures text_form _ (not-false _ c.if-not-span.false) (subst (FormAt a.text.now f.result.from f.result.end) c.in-Wrong.is c.read_form.ensures)
 
 pub returns-in-Wrong : goal.returns-in-Wrong
 returns-in-Wrong c =
     let a = c.args in
     let f = c.find_line-span in
-    perhaps_malformed text_form One a.text.now 0 1 form= f.result f.ensures (not-false _ c.if-not-span.false) _ (no_value_2 c) c.fault_at.result c.fault_at.ensures
+    perhaps_malformed text_form One a.text.now 0 1 form= f.result f.ensures (not-false _ c.if-not-span.false) _ (subst (FormAt a.text.now f.result.from f.result.end) c.in-Wrong.is c.read_form.ensures) c.fault_at.result c.fault_at.ensures
 
 pub returns-in-Form : goal.returns-in-Form
 returns-in-Form c =

@@ -1,24 +1,13 @@
 -- `line::need_line` meets its contract: 21 where the line is not found, then 22 by the needs' reader. Assumes nothing.
 use mathlib.Core.Path.{refl, sym, subst}
 use borrow.Author.Tests.{not-true, not-false}
-use Rattle.job_values.specs.inner.Told.{Unformed}
 use Rattle.job_text.specs.Value.{needs}
 use Rattle.job_text.specs.Job.{asked, unlimited, need=}
 use Rattle.job_text.specs.Given.{NeedAt}
 use Rattle.job_text.specs.Text.{lines}
 use lib.ListN.{drop}
 use Rattle.job_text.proofs.Lines.{wrong_fits, list_wrong, list_right, asked_missing, asked_malformed, asked_says}
-use borrow.Author.Rules.{rules as simple}
 use Rattle.job_text.proofs.line.need_line.Goals as goal
-
-pub find_line-span-requires : goal.find_line-span-requires
-find_line-span-requires c = search simple
-
-pub missing-requires : goal.missing-requires
-missing-requires c = search simple
-
-pub need_fault-requires : goal.need_fault-requires
-need_fault-requires c = search simple
 
 pub returns-then-not-span : goal.returns-then-not-span
 returns-then-not-span c =
@@ -31,47 +20,21 @@ returns-then-not-span c =
 pub read_needs-list-requires : goal.read_needs-list-requires
 read_needs-list-requires c = record { within = (c.find_line-span.ensures.there (not-false _ c.if-not-span.false)).within; count_bound = c.requires }
 
--- a value that is not of the form
-no_value : (c : goal.Then-not-list)
-    → let a = c.args in
-    let f = c.find_line-span in
-    Unformed (needs a.kind a.count) a.text.now f.result.from f.result.end c.read_needs-list.result.wrong
-no_value c =
-    let a = c.args in
-    let f = c.find_line-span in
-    let l = c.read_needs-list in
-    list_wrong (needs a.kind a.count) a.text.now f.result.from f.result.end l.result l.ensures (not-true _ c.if-not-list.true)
-
--- a value that is not of the form
-no_value_2 : (c : goal.After-need_fault-then-not-list)
-    → let a = c.args in
-    let f = c.find_line-span in
-    Unformed (needs a.kind a.count) a.text.now f.result.from f.result.end c.read_needs-list.result.wrong
-no_value_2 c =
-    let a = c.args in
-    let f = c.find_line-span in
-    let l = c.read_needs-list in
-    list_wrong (needs a.kind a.count) a.text.now f.result.from f.result.end l.result l.ensures (not-true _ c.if-not-list.true)
-
 pub fault_at-requires : goal.fault_at-requires
 fault_at-requires c =
     let a = c.args in
     let f = c.find_line-span in
-    wrong_fits a.text.now a.at need= f.result f.ensures (needs a.kind a.count) _ (not-false _ c.if-not-span.false) (no_value c)
-
-pub need_fault-requires-then-not-list : goal.need_fault-requires-then-not-list
-need_fault-requires-then-not-list c = search simple
+    let l = c.read_needs-list in
+    wrong_fits a.text.now a.at need= f.result f.ensures (needs a.kind a.count) _ (not-false _ c.if-not-span.false) (list_wrong (needs a.kind a.count) a.text.now f.result.from f.result.end l.result l.ensures (not-true _ c.if-not-list.true))
 
 pub returns-then-not-list : goal.returns-then-not-list
 returns-then-not-list c =
     let a = c.args in
     let f = c.find_line-span in
+    let l = c.read_needs-list in
     let said = asked need= (needs a.kind a.count) unlimited (lines (drop a.at a.text.now)) in
     subst (NeedAt a.text.now said a.line) (sym c.need_fault-then-not-list.ensures)
-    (asked_malformed a.text.now a.at need= f.result f.ensures (needs a.kind a.count) unlimited a.line c.fault_at.result (not-false _ c.if-not-span.false) _ (no_value_2 c) c.fault_at.ensures)
-
-pub overflow_add-result : goal.overflow_add-result
-overflow_add-result c = search simple
+    (asked_malformed a.text.now a.at need= f.result f.ensures (needs a.kind a.count) unlimited a.line c.fault_at.result (not-false _ c.if-not-span.false) _ (list_wrong (needs a.kind a.count) a.text.now f.result.from f.result.end l.result l.ensures (not-true _ c.if-not-list.true)) c.fault_at.ensures)
 
 pub returns : goal.returns
 returns c =

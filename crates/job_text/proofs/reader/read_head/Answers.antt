@@ -1,33 +1,18 @@
 -- `reader::read_head` meets its contract: a fault of the form's line is the head's, and the rest is what `read_states` finds. Assumes nothing.
-use mathlib.Core.Path.{◌≡◌, subst}
-use lib.ListN.{drop}
+use mathlib.Core.Path.{subst}
 use Rattle.job_values.specs.declared.value.Form.TheVariants.{One}
 use Rattle.job_text.specs.Text.{lines}
 use Rattle.job_text.specs.Value.{text_form}
-use Rattle.job_text.specs.Job.{form=, found, form_line}
+use Rattle.job_text.specs.Job.{form=, form_line}
 use Rattle.job_text.specs.Given.{FormAt}
 use Rattle.job_text.proofs.Heads.{blamed_on, form_stops, form_goes, perhaps_next, head_stops}
 use native.Mathlib.Omega.{arith}
 use Rattle.job_text.proofs.reader.read_head.Goals as goal
 
--- what the form's line says
-form-said : (c : goal.In-Form)
-    → let text = c.args.text.now in
-    form_line 1 (lines text) ≡ found c.in-Form.form c.in-Form.line (lines (drop c.in-Form.next text))
-form-said c =
-    let text = c.args.text.now in
-    subst (FormAt text (form_line 1 (lines text))) c.in-Form.is c.form_line.ensures
-
--- what the form's line says
-form-said_2 : (c : goal.After-read_states)
-    → let text = c.args.text.now in
-    form_line 1 (lines text) ≡ found c.in-Form.form c.in-Form.line (lines (drop c.in-Form.next text))
-form-said_2 c =
-    let text = c.args.text.now in
-    subst (FormAt text (form_line 1 (lines text))) c.in-Form.is c.form_line.ensures
-
 pub read_states-requires : goal.read_states-requires
-read_states-requires c = omega (arith, perhaps_next form= text_form One 1 (lines c.args.text.now) _ _ _ (form-said c))
+read_states-requires c =
+    let text = c.args.text.now in
+    omega (arith, perhaps_next form= text_form One 1 (lines text) _ _ _ (subst (FormAt text (form_line 1 (lines text))) c.in-Form.is c.form_line.ensures))
 
 pub returns-in-Fault : goal.returns-in-Fault
 returns-in-Fault c =
@@ -38,4 +23,4 @@ returns-in-Fault c =
 pub returns-in-Form : goal.returns-in-Form
 returns-in-Form c =
     let text = c.args.text.now in
-    rw (form_goes 1 (lines text) _ _ _ (form-said_2 c)) c.read_states.ensures
+    rw (form_goes 1 (lines text) _ _ _ (subst (FormAt text (form_line 1 (lines text))) c.in-Form.is c.form_line.ensures)) c.read_states.ensures

@@ -15,7 +15,7 @@
  * Memory: nothing is allocated and nothing is kept between calls. A call takes less than 64 KB of stack, whatever the table;
  * mukhadero_read_hoa less than 96 KB, whatever the text.
  * Threads: calls may run at the same time. Tables and needs are only read and may be shared; room, scratch and outputs may not.
- * Platform: x86-64 Linux, the C calling convention there; of the C library only memset is used.
+ * Platform: x86-64 Linux, the C calling convention there; of the C library only memset and memcpy are used.
  *
  * Link with target/staticlib/libmukhadero.a: a release has it, and in the sources `tools/build mukhadero` makes it. mukhadero.pc, in
  * the root of both, is for pkg-config.

@@ -69,7 +69,9 @@ def dashed_names(top):
     """The names with dashes that a file of specs/ or a file of lemmas declares, each with its new spelling."""
     found, others = set(), set()
     for path in files(top):
-        if path.endswith(".antt") and os.path.basename(path) not in MADE:
+        # A function's own files stand in a folder below proofs/.
+        own = os.path.basename(os.path.dirname(path)) in ("proofs", "specs") or os.path.basename(path) not in MADE
+        if path.endswith(".antt") and own:
             text = read(path)
             for name in DECLARED.findall(text) + FIELD.findall(text):
                 if "-" in name and re.fullmatch(r"[a-zA-Z][\w'-]*", name):

@@ -54,8 +54,8 @@ module _ (n start k : ℕ) (from to marks : List ℕ) (sound : refusal (lent n s
   few_marks = used_few (Buchi k) [] fit.condition
 
   -- the products fit a word before row 10 is read
-  pub counts-fit : (K : ℕ) → K ≡ levels k → (n * K ≤ most_states * width) × ((source (lent n start from to marks) k).edges * K ≤ (most_edges + most_states) * width)
-  counts-fit K e =
+  pub counts_fit : (K : ℕ) → K ≡ levels k → (n * K ≤ most_states * width) × ((source (lent n start from to marks) k).edges * K ≤ (most_edges + most_states) * width)
+  counts_fit K e =
       let few : K ≤ width = omega (arith, few_marks) in
       (mul-le-mul fit.proper.few few, mul-le-mul (source_most (lent n start from to marks) fit.proper k) few)
 
@@ -71,28 +71,28 @@ module _ (n start k : ℕ) (from to marks : List ℕ) (sound : refusal (lent n s
 -- ---- each answer, from the tests that lead to it
 
 module _ (t : Table) (k a b c : ℕ) where
-  pub answer-faulty : (number place : ℕ) → refusal t (Buchi k) [] ≡ Faulty number place → Refused number place ≡ answer t k a b c
-  answer-faulty number place e = rw e
+  pub answer_faulty : (number place : ℕ) → refusal t (Buchi k) [] ≡ Faulty number place → Refused number place ≡ answer t k a b c
+  answer_faulty number place e = rw e
 
   module _ (sound : refusal t (Buchi k) [] ≡ Sound) where
-    pub answer-large : large (translated t k).states (translated t k).edges ≡ true → Refused 10 0 ≡ answer t k a b c
-    answer-large e = rw (sound, e)
+    pub answer_large : large (translated t k).states (translated t k).edges ≡ true → Refused 10 0 ≡ answer t k a b c
+    answer_large e = rw (sound, e)
 
     module _ (fits : large (translated t k).states (translated t k).edges ≡ false) where
-      pub answer-short : short (translated t k).edges a b c ≡ true → Refused 11 0 ≡ answer t k a b c
-      answer-short e = rw (sound, fits, e)
+      pub answer_short : short (translated t k).edges a b c ≡ true → Refused 11 0 ≡ answer t k a b c
+      answer_short e = rw (sound, fits, e)
 
-      pub answer-made : short (translated t k).edges a b c ≡ false
+      pub answer_made : short (translated t k).edges a b c ≡ false
           → Made (translated t k).states (translated t k).edges (translated t k).start ≡ answer t k a b c
-      answer-made e = rw (sound, fits, e)
+      answer_made e = rw (sound, fits, e)
 
   -- one of the four tests decides
-  by-test : {C : Type 0} → ((number place : ℕ) → refusal t (Buchi k) [] ≡ Faulty number place → C)
+  by_test : {C : Type 0} → ((number place : ℕ) → refusal t (Buchi k) [] ≡ Faulty number place → C)
       → (refusal t (Buchi k) [] ≡ Sound → large (translated t k).states (translated t k).edges ≡ true → C)
       → (refusal t (Buchi k) [] ≡ Sound → large (translated t k).states (translated t k).edges ≡ false → short (translated t k).edges a b c ≡ true → C)
       → (refusal t (Buchi k) [] ≡ Sound → large (translated t k).states (translated t k).edges ≡ false → short (translated t k).edges a b c ≡ false → C)
       → C
-  by-test {C} faulty over few made = by-finding (refusal t (Buchi k) []) refl
+  by_test {C} faulty over few made = by_finding (refusal t (Buchi k) []) refl
     where
       by_room : refusal t (Buchi k) [] ≡ Sound → large (translated t k).states (translated t k).edges ≡ false
           → (s : Bool) → short (translated t k).edges a b c ≡ s → C
@@ -103,9 +103,9 @@ module _ (t : Table) (k a b c : ℕ) where
       by_size q true e = over q e
       by_size q false e = by_room q e (short (translated t k).edges a b c) refl
 
-      by-finding : (f : Finding) → refusal t (Buchi k) [] ≡ f → C
-      by-finding (Faulty number place) q = faulty number place q
-      by-finding Sound q = by_size q (large (translated t k).states (translated t k).edges) refl
+      by_finding : (f : Finding) → refusal t (Buchi k) [] ≡ f → C
+      by_finding (Faulty number place) q = faulty number place q
+      by_finding Sound q = by_size q (large (translated t k).states (translated t k).edges) refl
 
 -- ---- what the number 0 says of the input and of the answer
 
@@ -113,9 +113,9 @@ pub record Granted (t : Table) (k a b c : ℕ) (r : Translation) : Type 0 where
   pub sound : refusal t (Buchi k) [] ≡ Sound
   pub few : (translated t k).states ≤ most_states
   pub few_edges : (translated t k).edges ≤ most_edges
-  pub first-room : (translated t k).edges ≤ a
-  pub second-room : (translated t k).edges ≤ b
-  pub third-room : (translated t k).edges ≤ c
+  pub first_room : (translated t k).edges ≤ a
+  pub second_room : (translated t k).edges ≤ b
+  pub third_room : (translated t k).edges ≤ c
   pub made : r ≡ Made (translated t k).states (translated t k).edges (translated t k).start
 
 module _ (t : Table) (k a b c : ℕ) (r : Translation) (answered : r ≡ answer t k a b c) (none : number_of r ≡ 0) where
@@ -123,9 +123,9 @@ module _ (t : Table) (k a b c : ℕ) (r : Translation) (answered : r ≡ answer 
   other : {C : Type 0} (q : Translation) → q ≡ answer t k a b c → 0 < number_of q → C
   other q e l = absurd (omega (arith, ap number_of (answered ∙ sym e)))
 
-  all-granted : refusal t (Buchi k) [] ≡ Sound → large (translated t k).states (translated t k).edges ≡ false
+  all_granted : refusal t (Buchi k) [] ≡ Sound → large (translated t k).states (translated t k).edges ≡ false
       → short (translated t k).edges a b c ≡ false → Granted t k a b c r
-  all-granted q e s =
+  all_granted q e s =
       let counts = either_false (ltb most_states (translated t k).states) _ e in
       let one = either_false (ltb a (translated t k).edges) _ s in
       let two = either_false (ltb b (translated t k).edges) _ one.1 in
@@ -133,19 +133,19 @@ module _ (t : Table) (k a b c : ℕ) (r : Translation) (answered : r ≡ answer 
         sound = q;
         few = ltb-false most_states (translated t k).states counts.0;
         few_edges = ltb-false most_edges (translated t k).edges counts.1;
-        first-room = ltb-false a (translated t k).edges one.0;
-        second-room = ltb-false b (translated t k).edges two.0;
-        third-room = ltb-false c (translated t k).edges two.1;
-        made = answered ∙ sym (answer-made t k a b c q e s);
+        first_room = ltb-false a (translated t k).edges one.0;
+        second_room = ltb-false b (translated t k).edges two.0;
+        third_room = ltb-false c (translated t k).edges two.1;
+        made = answered ∙ sym (answer_made t k a b c q e s);
       }
 
   pub granted : Granted t k a b c r
   granted =
-      by-test t k a b c
-      (λ number place q. other (Refused number place) (answer-faulty t k a b c number place q) (refused_row t (Buchi k) [] number place q).some)
-      (λ q e. other (Refused 10 0) (answer-large t k a b c q e) (omega arith))
-      (λ q e s. other (Refused 11 0) (answer-short t k a b c q e s) (omega arith))
-      all-granted
+      by_test t k a b c
+      (λ number place q. other (Refused number place) (answer_faulty t k a b c number place q) (refused_row t (Buchi k) [] number place q).some)
+      (λ q e. other (Refused 10 0) (answer_large t k a b c q e) (omega arith))
+      (λ q e s. other (Refused 11 0) (answer_short t k a b c q e s) (omega arith))
+      all_granted
 
 -- ---- what another number says: rows 1 to 7 "in the same way", with the check's place; then 10 and 11, with place 0
 
@@ -154,21 +154,21 @@ pub record RefusedRow (t : Table) (number place : ℕ) : Type 0 where
   pub late : 7 < number → (10 ≤ number) × ((number ≤ 11) × (place ≡ 0))
 
 module _ (t : Table) (k a b c : ℕ) (r : Translation) (answered : r ≡ answer t k a b c) (some : 0 < number_of r) where
-  early-row : (number place : ℕ) → refusal t (Buchi k) [] ≡ Faulty number place → RefusedRow t number place
-  early-row number place q =
+  early_row : (number place : ℕ) → refusal t (Buchi k) [] ≡ Faulty number place → RefusedRow t number place
+  early_row number place q =
       let row = refused_row t (Buchi k) [] number place q in
       record { early = λ l. row; late = λ l. absurd (omega (arith, row.most)) }
 
-  late-row : (number : ℕ) → 10 ≤ number → number ≤ 11 → RefusedRow t number 0
-  late-row number l m = record { early = λ n. absurd (omega arith); late = λ n. (l, (m, refl)) }
+  late_row : (number : ℕ) → 10 ≤ number → number ≤ 11 → RefusedRow t number 0
+  late_row number l m = record { early = λ n. absurd (omega arith); late = λ n. (l, (m, refl)) }
 
-  as-answered : (q : Translation) → q ≡ answer t k a b c → RefusedRow t (number_of q) (place_of q) → RefusedRow t (number_of r) (place_of r)
-  as-answered q e = subst (λ (x : Translation). RefusedRow t (number_of x) (place_of x)) (e ∙ sym answered)
+  as_answered : (q : Translation) → q ≡ answer t k a b c → RefusedRow t (number_of q) (place_of q) → RefusedRow t (number_of r) (place_of r)
+  as_answered q e = subst (λ (x : Translation). RefusedRow t (number_of x) (place_of x)) (e ∙ sym answered)
 
-  pub refused-at : RefusedRow t (number_of r) (place_of r)
-  refused-at =
-      by-test t k a b c
-      (λ number place q. as-answered (Refused number place) (answer-faulty t k a b c number place q) (early-row number place q))
-      (λ q e. as-answered (Refused 10 0) (answer-large t k a b c q e) (late-row 10 (omega arith) (omega arith)))
-      (λ q e s. as-answered (Refused 11 0) (answer-short t k a b c q e s) (late-row 11 (omega arith) (omega arith)))
-      (λ q e s. absurd (omega (arith, some, ap number_of (answered ∙ sym (answer-made t k a b c q e s)))))
+  pub refused_at : RefusedRow t (number_of r) (place_of r)
+  refused_at =
+      by_test t k a b c
+      (λ number place q. as_answered (Refused number place) (answer_faulty t k a b c number place q) (early_row number place q))
+      (λ q e. as_answered (Refused 10 0) (answer_large t k a b c q e) (late_row 10 (omega arith) (omega arith)))
+      (λ q e s. as_answered (Refused 11 0) (answer_short t k a b c q e s) (late_row 11 (omega arith) (omega arith)))
+      (λ q e s. absurd (omega (arith, some, ap number_of (answered ∙ sym (answer_made t k a b c q e s)))))

@@ -15,7 +15,7 @@ use Rattle.climbing.specs.Translated.{translated, lifted_from, lifted_to, lifted
 use Rattle.one_mark.specs.Outcome.{Outcome, answer, number_of, place_of, states_of, edges_of, start_of}
 use Rattle.one_mark.specs.Faithful.{Lifts, Positions, Stops, Faithful}
 use Rattle.one_mark.proofs.Accepted.{lent_again, lifted_sound}
-use Rattle.one_mark.proofs.Answers.{fit, granted, RefusedRow, refused-at}
+use Rattle.one_mark.proofs.Answers.{fit, granted, RefusedRow, refused_at}
 use Rattle.one_mark.proofs.Lassos.{one_over, one_under, lasso_down, lasso_up}
 use Rattle.climbing.proofs.Order.{whole_length}
 use Rattle.one_mark.proofs.Position.{stands, cell_at, place_most, level_place, edge_place}
@@ -128,4 +128,4 @@ refused_untouched t k l a b (Refused number place) l' a' b' o some = (o.from_hel
 -- .. and the number and place are those of a row
 pub refused_told : (t : Table) (k : ℕ) (l a b : List ℕ) (r : Translation) (l' a' b' : List ℕ)
     → Outcome t k l a b r l' a' b' → 0 < number_of r → RefusedRow t (number_of r) (place_of r)
-refused_told t k l a b r l' a' b' o some = refused-at t k (length l) (length a) (length b) r o.answered some
+refused_told t k l a b r l' a' b' o some = refused_at t k (length l) (length a) (length b) r o.answered some

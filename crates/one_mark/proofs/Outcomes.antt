@@ -96,5 +96,5 @@ ready n start k K from to marks l a b states edges first made all =
       };
       count = counted ∙ rw (same, all);
       few_edges = omega (arith, g.few_edges);
-      room = record { for_from = omega (arith, g.first-room); for_to = omega (arith, g.second-room); for_marks = omega (arith, g.third-room) };
+      room = record { for_from = omega (arith, g.first_room); for_to = omega (arith, g.second_room); for_marks = omega (arith, g.third_room) };
     }

@@ -13,7 +13,7 @@ use Rattle.marks.specs.Mark.{width}
 use Rattle.climbing.specs.Climb.{levels}
 use Rattle.climbing.specs.Source.{source}
 use Rattle.climbing.specs.Translated.{translated}
-use Rattle.one_mark.proofs.Answers.{Counts, counts, answer-faulty, answer-large, answer-short, answer-made, not_large, ladder, counts-fit, start_below, rising}
+use Rattle.one_mark.proofs.Answers.{Counts, counts, answer_faulty, answer_large, answer_short, answer_made, not_large, ladder, counts_fit, start_below, rising}
 use Rattle.one_mark.specs.Outcome.{large, short}
 use Rattle.one_mark.proofs.foresee.Goals as goal
 
@@ -25,7 +25,7 @@ module _ (n start k : ℕ) (from to marks : List ℕ) (K m : ℕ) (all : K ≡ l
 
   -- they fit a word
   edges_fit : refusal (lent n start from to marks) (Buchi k) [] ≡ Sound → m * K ≤ (most_edges + most_states) * width
-  edges_fit sound = rw (← made.edges) (rw (← all) (counts-fit n start k from to marks sound K all).1)
+  edges_fit sound = rw (← made.edges) (rw (← all) (counts_fit n start k from to marks sound K all).1)
 
   -- row 10 was tested
   large-told : {r : Bool} → r ≡ large (n * K) (m * K) → r ≡ large (translated (lent n start from to marks) k).states (translated (lent n start from to marks) k).edges
@@ -39,13 +39,13 @@ pub returns-in-Refused : goal.returns-in-Refused
 returns-in-Refused c =
     let a = c.args in
     let out = a.lengths in
-    answer-faulty (lent a.n a.start a.from.now a.to.now a.marks.now) a.k out.leaves out.arrives out.bears c.in-Refused.number c.in-Refused.place
+    answer_faulty (lent a.n a.start a.from.now a.to.now a.marks.now) a.k out.leaves out.arrives out.bears c.in-Refused.number c.in-Refused.place
     (sym c.check-finding.ensures ∙ c.in-Refused.is)
 
 pub overflow_mul-states : goal.overflow_mul-states
 overflow_mul-states c =
     let a = c.args in
-    omega (arith, (counts-fit a.n a.start a.k a.from.now a.to.now a.marks.now (sym c.check-finding.ensures ∙ c.in_default.is) _ c.level_count-levels.ensures).0)
+    omega (arith, (counts_fit a.n a.start a.k a.from.now a.to.now a.marks.now (sym c.check-finding.ensures ∙ c.in_default.is) _ c.level_count-levels.ensures).0)
 
 pub source_count-requires : goal.source_count-requires
 source_count-requires c =
@@ -62,7 +62,7 @@ returns-then-too_large c =
     let a = c.args in
     let out = a.lengths in
     c.refused.ensures
-    ∙ answer-large (lent a.n a.start a.from.now a.to.now a.marks.now) a.k out.leaves out.arrives out.bears (sym c.check-finding.ensures ∙ c.in_default.is)
+    ∙ answer_large (lent a.n a.start a.from.now a.to.now a.marks.now) a.k out.leaves out.arrives out.bears (sym c.check-finding.ensures ∙ c.in_default.is)
     (sym (large-told a.n a.start a.k a.from.now a.to.now a.marks.now _ _ c.level_count-levels.ensures c.source_count.ensures c.too_large.ensures) ∙ c.if-too_large.true)
 
 pub returns-then-too_short : goal.returns-then-too_short
@@ -70,7 +70,7 @@ returns-then-too_short c =
     let a = c.args in
     let out = a.lengths in
     c.refused-then-too_short.ensures
-    ∙ answer-short (lent a.n a.start a.from.now a.to.now a.marks.now) a.k out.leaves out.arrives out.bears (sym c.check-finding.ensures ∙ c.in_default.is)
+    ∙ answer_short (lent a.n a.start a.from.now a.to.now a.marks.now) a.k out.leaves out.arrives out.bears (sym c.check-finding.ensures ∙ c.in_default.is)
     (sym (large-told a.n a.start a.k a.from.now a.to.now a.marks.now _ _ c.level_count-levels.ensures c.source_count.ensures c.too_large.ensures) ∙ c.if-too_large.false)
     (sym (short-told a.n a.start a.k a.from.now a.to.now a.marks.now _ _ c.level_count-levels.ensures c.source_count.ensures _ _ _ c.too_short.ensures) ∙ c.if-too_short.true)
 
@@ -95,7 +95,7 @@ returns c =
     let a = c.args in
     let out = a.lengths in
     let m = made a.n a.start a.k a.from.now a.to.now a.marks.now _ _ c.level_count-levels.ensures c.source_count.ensures in
-    let answered = answer-made (lent a.n a.start a.from.now a.to.now a.marks.now) a.k out.leaves out.arrives out.bears (sym c.check-finding.ensures ∙ c.in_default.is)
+    let answered = answer_made (lent a.n a.start a.from.now a.to.now a.marks.now) a.k out.leaves out.arrives out.bears (sym c.check-finding.ensures ∙ c.in_default.is)
     (sym (large-told a.n a.start a.k a.from.now a.to.now a.marks.now _ _ c.level_count-levels.ensures c.source_count.ensures c.too_large.ensures) ∙ c.if-too_large.false)
     (sym (short-told a.n a.start a.k a.from.now a.to.now a.marks.now _ _ c.level_count-levels.ensures c.source_count.ensures _ _ _ c.too_short.ensures) ∙ c.if-too_short.false) in
     rw (c.number_of-first.ensures, ← m.states, ← m.edges, ← m.first) answered

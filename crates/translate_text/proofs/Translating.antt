@@ -106,7 +106,7 @@ pub made_fits : {t : Table} {k : ℕ} {l a b l' a' b' : List ℕ} {r : Translati
 made_fits {t} {k} {l} {a} {b} {r = r} {edges = edges} O e =
     let g = granted t k (length l) (length a) (length b) r O.answered (ap number_of e) in
     let same : edges ≡ (translated t k).edges = ap edges_of (sym e ∙ g.made) in
-    (omega (arith, g.first-room), (omega (arith, g.second-room), omega (arith, g.third-room)))
+    (omega (arith, g.first_room), (omega (arith, g.second_room), omega (arith, g.third_room)))
 
 module _ (n start : ℕ) (from to marks : List ℕ) (k : ℕ) (l a b : List ℕ) (l-long : length l ≡ most_edges) (a-long : length a ≡ most_edges) (b-long : length b ≡ most_edges)
     (r : Translation) (l' a' b' : List ℕ) (O : Outcome (lent n start from to marks) k l a b r l' a' b') where

@@ -1,6 +1,6 @@
 -- Walking a list of edges, edge by edge. Assumes nothing.
 use mathlib.Core.Path.{◌≡◌, refl, sym, ap, ◌∙◌, subst}
-use mathlib.Core.Bool.{true, false, false≢true}
+use mathlib.Core.Bool.{true, false}
 use mathlib.Core.Logic.{◌⊎◌, inl, inr}
 use mathlib.Core.List.{List, [], ◌∷◌, ◌++◌}
 use mathlib.Core.Option.{some, none}
@@ -17,12 +17,10 @@ use Rattle.table.proofs.Walks.{walk_snoc, marks_append, proper_apart}
 use Rattle.job_text.specs.Text.{comma, fields, FirstAt}
 use Rattle.job_values.proofs.Cut.{left, left_cut}
 use Rattle.answer_check.specs.declared.walk.Place.{Place}
-use Rattle.answer_check.specs.declared.walk.Went.{Went}
-use Rattle.answer_check.specs.declared.walk.Went.TheVariants as went
 use Rattle.answer_check.specs.declared.walk.Walked.{Walked}
-use Rattle.answer_check.specs.declared.walk.Walked.TheVariants as walked
+use Rattle.std.proofs.Common as code
 use Rattle.answer_form.specs.Given.{step, steps}
-use Rattle.answer_check.specs.inner.{LeftBy, Lies, Stands, Goes, WentSays, WaitSays, GoSays, Through, WalkSays}
+use Rattle.answer_check.specs.inner.{LeftBy, Lies, Stands, Goes, WaitSays, GoSays, Through, WalkSays}
 use Rattle.answer_form.proofs.Digits.{none_some, some_same}
 use Rattle.answer_form.proofs.Lists.{Stepped, stepped, no_steps}
 use Rattle.answer_form.proofs.Forms.{left_all, left_none}
@@ -85,45 +83,11 @@ waits_on t from p L S =
       marks = sym (ap (union p.union) (proper_apart t L.proper).unmarked ∙ union_none p.union);
     }
 
-pub wait_again : (from : List ℕ) (p : Place) → p.waits ≡ true → WaitSays from p (went.On (record { state = p.state; union = p.union; waits = true }))
+pub wait_again : (from : List ℕ) (p : Place) → p.waits ≡ true → WaitSays from p (code.Some (record { state = p.state; union = p.union; waits = true }))
 wait_again from p w t L S = waits_on t from p L (S.waits w)
 
-pub wait_first : (from : List ℕ) (p : Place) → LeftBy from p.state false → WaitSays from p (went.On (record { state = p.state; union = p.union; waits = true }))
+pub wait_first : (from : List ℕ) (p : Place) → LeftBy from p.state false → WaitSays from p (code.Some (record { state = p.state; union = p.union; waits = true }))
 wait_first from p h t L S = waits_on t from p L (no_leave t from p.state L S.state h)
-
--- where an edge leaves there is no waiting
-pub wait_not : (from : List ℕ) (p : Place) → LeftBy from p.state true → WaitSays from p went.Stuck
-wait_not from p h t L S s' (inl E) = omega (arith, E.listed, L.proper.few_edges)
-wait_not from p h t L S s' (inr W) =
-    W.stop.halts h.0 (get_or t.to h.0 0)
-    (record {
-      listed = omega (arith, h.1.0, L.proper.from_length, ap length L.from_is);
-      leaves = ap (λ (x : List ℕ). get_or x h.0 0) L.from_is ∙ h.1.1;
-      arrives = refl;
-    })
-
-module _ (from to marks : List ℕ) (p : Place) (e : ℕ) (real : e ≡ waiting → ⊥) where
-  -- no such edge
-  pub edge_beyond : length from ≤ e → GoSays from to marks p e went.Stuck
-  edge_beyond l t L S s' (inl E) = omega (arith, E.listed, L.proper.from_length, ap length L.from_is)
-  edge_beyond l t L S s' (inr W) = real W.number
-
-  -- it leaves elsewhere
-  pub edge_elsewhere : (get_or from e 0 ≡ p.state → ⊥) → GoSays from to marks p e went.Stuck
-  edge_elsewhere h t L S s' (inl E) = h (ap (λ (x : List ℕ). get_or x e 0) (sym L.from_is) ∙ E.leaves)
-  edge_elsewhere h t L S s' (inr W) = real W.number
-
-  -- it is taken
-  pub edge_taken : e < length from → get_or from e 0 ≡ p.state → (q : Place) → q.state ≡ get_or to e 0 → q.union ≡ union p.union (get_or marks e 0) → q.waits ≡ false
-      → GoSays from to marks p e (went.On q)
-  edge_taken l h q a b w t L S =
-      let in_table : e < t.edges = omega (arith, l, L.proper.from_length, ap length L.from_is) in
-      let to_is : get_or t.to e 0 ≡ q.state = ap (λ (x : List ℕ). get_or x e 0) L.to_is ∙ sym a in
-      record {
-        stands = record { state = omega (arith, L.proper.to_below e in_table, to_is); waits = λ y. absurd (false≢true (sym w ∙ y)) };
-        step = inl (record { listed = in_table; leaves = ap (λ (x : List ℕ). get_or x e 0) L.from_is ∙ h; arrives = to_is });
-        marks = b ∙ ap (λ (x : List ℕ). union p.union (get_or x e 0)) (sym L.marks_is);
-      }
 
 -- ---- a list
 
@@ -167,12 +131,12 @@ module _ (bs : List ℕ) (s : Place) (from to marks : List ℕ) (at i : ℕ) (p 
     next = drop_next es i here.edge here.others here.is
 
   -- it is an edge
-  pub never_wrong : step (part at end bs) ≡ none → (r : Walked) → WalkSays (steps (fields bs)) s from to marks r
+  pub never_wrong : step (part at end bs) ≡ none → (r : code.Result Walked ℕ) → WalkSays (steps (fields bs)) s from to marks r
   never_wrong w r t es L b e = absurd (none_some (sym w ∙ (here t es L b e).read))
 
   module _ (x : ℕ) (read : step (part at end bs) ≡ some x) where
     -- it leads nowhere: the list breaks here
-    pub breaks_here : GoSays from to marks p x went.Stuck → WalkSays (steps (fields bs)) s from to marks (walked.Broken i)
+    pub breaks_here : GoSays from to marks p x code.None → WalkSays (steps (fields bs)) s from to marks (code.Err i)
     breaks_here G t es L b e =
         let O = U t es L b e in
         let n = next t es L b e in
@@ -185,7 +149,7 @@ module _ (bs : List ℕ) (s : Place) (from to marks : List ℕ) (at i : ℕ) (p 
         }
 
     -- one edge further
-    pub goes_on : (q : Place) → GoSays from to marks p x (went.On q) → Underway bs s from to marks (end + 1) (i + 1) q
+    pub goes_on : (q : Place) → GoSays from to marks p x (code.Some q) → Underway bs s from to marks (end + 1) (i + 1) q
     goes_on q G t es L b e =
         let O = U t es L b e in
         let n = next t es L b e in
@@ -204,7 +168,7 @@ module _ (bs : List ℕ) (s : Place) (from to marks : List ℕ) (at i : ℕ) (p 
         }
 
 pub arrived : (bs : List ℕ) (s : Place) (from to marks : List ℕ) (at i : ℕ) (p : Place) → Underway bs s from to marks at i p → length bs < at
-    → WalkSays (steps (fields bs)) s from to marks (walked.Through p i)
+    → WalkSays (steps (fields bs)) s from to marks (code.Ok (record { place = p; count = i }))
 arrived bs s from to marks at i p U l t es L b e =
     let O = U t es L b e in
     let none : drop i es ≡ [] = no_steps (drop i es) (sym (ap steps (left_none bs at l)) ∙ O.rest) in
@@ -220,8 +184,3 @@ arrived bs s from to marks at i p U l t es L b e =
 -- a list without edges
 pub no_edges : (s : Place) (es : List ℕ) → es ≡ [] → (t : Table) → Stands t s → Through t s es s 0
 no_edges s es e t S = rw e (record { walk = refl; stands = S; marks = sym (union_none s.union); counted = refl })
-
--- a waiting edge, as one of a list
-pub go_waits : (from to marks : List ℕ) (p : Place) (e : ℕ) (r : Went) → e ≡ waiting → WaitSays from p r → GoSays from to marks p e r
-go_waits from to marks p e r q W t L S =
-    subst (λ (x : ℕ). WentSays t p x r) (sym q) (W t (record { proper = L.proper; from_is = L.from_is; to_is = refl; marks_is = refl }) S)

@@ -2,7 +2,7 @@
 pub mod Going
 -- Conditions: whether the marks meet a condition
 pub mod Conditions
--- Lassos: from the walks to a lasso or its first fault
+-- Lassos: from the walks along its two lists to a lasso
 pub mod Lassos
 -- Telling: from what the parts give to the whole promise
 pub mod Telling

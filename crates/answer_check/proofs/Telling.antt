@@ -1,4 +1,6 @@
 -- From what the reader, the walk and the condition give to the whole promise. Assumes nothing.
+use Rattle.table.specs.declared.Refusal.{Refusal}
+use Rattle.std.specs.Prelude.{Result, Ok}
 use mathlib.Core.Path.{◌≡◌, refl, sym, ap, ◌∙◌, subst}
 use mathlib.Core.Bool.{Bool, false}
 use mathlib.Core.List.{List, map}
@@ -6,10 +8,9 @@ use mathlib.Core.Option.{none}
 use Prim.Native.Nat.{ℕ, ◌-◌}
 use lib.ListN.{take, drop}
 use Rattle.table.specs.declared.Acceptance.{Acceptance}
-use Rattle.table.specs.declared.Finding.{Finding}
-use Rattle.table.specs.declared.Finding.TheVariants.{Sound, Refused}
 use Rattle.table.specs.Table.{Table, lent}
-use Rattle.table.specs.Refusal.{refusal, wrong_condition}
+use Rattle.table.specs.Refusal.{refusal, wrong_condition, refused}
+use Rattle.table.proofs.Door.{same_told}
 use Rattle.table.specs.inner.Looks.{Even}
 use Rattle.table.proofs.Sound.{sound_fit}
 use Rattle.job_text.specs.declared.reader.Reading.{Reading}
@@ -21,6 +22,7 @@ use Rattle.answer_text.specs.Printed.{is_rabin}
 use Rattle.answer_check.specs.declared.Checked.{Checked}
 use Rattle.answer_check.specs.declared.Checked.TheVariants as checked
 use Rattle.answer_form.specs.declared.Form.{Form}
+use Rattle.std.proofs.Common as code
 use Rattle.answer_form.specs.declared.Form.TheVariants as form
 use Rattle.answer_form.specs.Form.{run}
 use Rattle.answer_check.specs.Fault.{Judged}
@@ -31,13 +33,13 @@ use Rattle.answer_form.proofs.Inverse.{given_says, malformed as not_read}
 
 -- ---- by the text's form
 
-module _ (t : Table) (c : Acceptance) (needs text : List ℕ) (rabin : Bool) (f : Form) (F : FormOf rabin text f) (k : rabin ≡ is_rabin c) where
-  pub told_malformed : f ≡ form.Malformed → Told t c needs text (checked.Refused 50 0 0)
+module _ (t : Table) (c : Acceptance) (needs text : List ℕ) (rabin : Bool) (f : code.Option Form) (F : FormOf rabin text f) (k : rabin ≡ is_rabin c) where
+  pub told_malformed : f ≡ code.None → Told t c needs text (checked.Refused 50 0 0)
   told_malformed e =
       let read : given rabin text ≡ none = subst (FormOf rabin text) e F in
       malformed (not_read c text (subst (λ (b : Bool). given b text ≡ none) k read)) refl
 
-  pub told_no_run : f ≡ form.NoRun → Told t c needs text (checked.Refused 51 0 0)
+  pub told_no_run : f ≡ code.Some form.NoRun → Told t c needs text (checked.Refused 51 0 0)
   told_no_run e =
       let other : OtherSaid (given rabin text) = subst (FormOf rabin text) e F in
       no_run
@@ -62,14 +64,14 @@ told_run t c needs text rabin pair a b d e R k r J =
 
 -- ---- by rows 1 to 7
 
-module _ (n start : ℕ) (from to marks : List ℕ) (c : Acceptance) (needs text : List ℕ) (f : Finding) (checks : f ≡ refusal (lent n start from to marks) c needs) where
-  pub row_refuses : {number place : ℕ} → f ≡ Refused number place
+module _ (n start : ℕ) (from to marks : List ℕ) (c : Acceptance) (needs text : List ℕ) (f : Result Unit Refusal) (checks : f ≡ refusal (lent n start from to marks) c needs) where
+  pub row_refuses : {number place : ℕ} → f ≡ refused number place
       → ByCause (refusal (lent n start from to marks) c needs) (lent n start from to marks) c needs text (checked.Refused number place 0)
   row_refuses {number} {place} e =
-      subst (λ (g : Finding). ByCause g (lent n start from to marks) c needs text (checked.Refused number place 0)) (sym e ∙ checks) refl
+      subst (λ (g : Result Unit Refusal). ByCause g (lent n start from to marks) c needs text (checked.Refused number place 0)) (sym e ∙ checks) refl
 
-  module _ (s : f ≡ Sound) where
-    sound : refusal (lent n start from to marks) c needs ≡ Sound
+  module _ (s : f ≡ Ok tt) where
+    sound : refusal (lent n start from to marks) c needs ≡ Ok tt
     sound = sym checks ∙ s
 
     pub even : Even from to marks
@@ -85,14 +87,14 @@ module _ (n start : ℕ) (from to marks : List ℕ) (c : Acceptance) (needs text
 
     pub no_row : (r : Checked) → Told (lent n start from to marks) c needs text r
         → ByCause (refusal (lent n start from to marks) c needs) (lent n start from to marks) c needs text r
-    no_row r T = subst (λ (g : Finding). ByCause g (lent n start from to marks) c needs text r) (sym sound) T
+    no_row r T = subst (λ (g : Result Unit Refusal). ByCause g (lent n start from to marks) c needs text r) (sym sound) T
 
 -- ---- by the job
 
-same_refusal : {number place x p column : ℕ} → Refused number place ≡ Refused x p → checked.Refused number place column ≡ checked.Refused x p column
-same_refusal {number} {place} {x} {p} q = let a : number ≡ x = cc in let b : place ≡ p = cc in rw (a, b)
+same_refusal : {number place x p column : ℕ} → refused {A = Unit {0}} number place ≡ refused x p → checked.Refused number place column ≡ checked.Refused x p column
+same_refusal {number} {place} {x} {p} q = let same = same_told q in rw (same.0, same.1)
 
-refused_by : (text : List ℕ) (o : Outcome) (r : Reading) (answer : List ℕ) (number place : ℕ) → r ≡ reading_of o r.column → Column text r.column → r.finding ≡ Refused number place
+refused_by : (text : List ℕ) (o : Outcome) (r : Reading) (answer : List ℕ) (number place : ℕ) → r ≡ reading_of o r.column → Column text r.column → r.finding ≡ refused number place
     → ByJob text o answer (checked.Refused number place r.column)
 refused_by text (job j) r answer number place e k f = absurd (unlike (sym f ∙ ap (λ (x : Reading). x.finding) e))
 refused_by text (fault x p) r answer number place e k f =
@@ -114,14 +116,14 @@ module _ (text : List ℕ) (r : Reading) (from to marks answer : List ℕ) (x : 
         rw (part_is (λ (e : Edge). e.from) j.edges, part_is (λ (e : Edge). e.to) j.edges, part_is (λ (e : Edge). e.marks) j.edges) at
         (rw (e, f, g, h) at S)
 
-  checked_by : (o : Outcome) (b b' b'' : List ℕ) (column : ℕ) → r ≡ reading_of o column → r.finding ≡ Sound → from ≡ cells_of (λ e. e.from) o b
+  checked_by : (o : Outcome) (b b' b'' : List ℕ) (column : ℕ) → r ≡ reading_of o column → r.finding ≡ Ok tt → from ≡ cells_of (λ e. e.from) o b
       → to ≡ cells_of (λ e. e.to) o b' → marks ≡ cells_of (λ e. e.marks) o b'' → Said → ByJob text o answer x
   checked_by (fault number place) b b' b'' column e s f g h S = absurd (unlike (sym (ap (λ (y : Reading). y.finding) e) ∙ s))
   checked_by (job j) b b' b'' column e s f g h S = on_job j column e f g h S
 
 module _ {text b b' b'' from to marks : List ℕ} {r : Reading} (R : Read text b b' b'' from to marks r) (answer : List ℕ) where
-  pub refused_so : {number place : ℕ} → r.finding ≡ Refused number place → Checks text answer (checked.Refused number place r.column)
+  pub refused_so : {number place : ℕ} → r.finding ≡ refused number place → Checks text answer (checked.Refused number place r.column)
   refused_so {number} {place} f = refused_by text (read_job text) r answer number place R.reading R.column f
 
-  pub checked_so : (x : Checked) → r.finding ≡ Sound → Said text r from to marks answer x → Checks text answer x
+  pub checked_so : (x : Checked) → r.finding ≡ Ok tt → Said text r from to marks answer x → Checks text answer x
   checked_so x s S = checked_by text r from to marks answer x (read_job text) b b' b'' r.column R.reading s R.froms R.tos R.sets S

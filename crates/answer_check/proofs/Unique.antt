@@ -1,5 +1,7 @@
 -- What the checker's promise settles: two texts get one result; it is accepted exactly if the text names an accepted lasso of the job's table.
 -- Assumes nothing.
+use Rattle.table.specs.declared.Refusal.{Refusal}
+use Rattle.std.specs.Prelude.{Result, Ok, Err}
 use mathlib.Core.Path.{◌≡◌, refl, sym, ap, ◌∙◌, subst}
 use mathlib.Core.Logic.{◌↔◌, ◌⊎◌, inl, inr}
 use mathlib.Core.List.{List, [], ◌∷◌}
@@ -10,8 +12,6 @@ use lib.Seq.{take-take, get_or-take, take-length}
 use Rattle.marks.proofs.Cases.{below}
 use Rattle.table.specs.declared.Acceptance.{Acceptance}
 use Rattle.table.specs.declared.Acceptance.TheVariants.{Buchi, Streett, Rabin}
-use Rattle.table.specs.declared.Finding.{Finding}
-use Rattle.table.specs.declared.Finding.TheVariants.{Sound, Refused}
 use Rattle.table.specs.Table.{Table, Step, Walk, Lasso, marks_of}
 use Rattle.table.specs.Condition.{Accepts}
 use Rattle.job_text.specs.Job.{Job, Outcome, job, fault as faulty, read_job}
@@ -159,9 +159,9 @@ module _ (t : Table) (c : Acceptance) (needs text : List ℕ) where
   one_told a b (run_judged R) (no_run n f) = absurd (n.other R.pair R.prefix R.cycle (one_said c text _ _ n.says R.says))
   one_told a b (run_judged R) (run_judged S) = same_run a b R S
 
-by_cause_once : (f : Finding) (t : Table) (c : Acceptance) (needs text : List ℕ) (a b : Checked) → ByCause f t c needs text a → ByCause f t c needs text b → a ≡ b
-by_cause_once (Refused number place) t c needs text a b p q = p ∙ sym q
-by_cause_once Sound t c needs text a b p q = one_told t c needs text a b p q
+by_cause_once : (f : Result Unit Refusal) (t : Table) (c : Acceptance) (needs text : List ℕ) (a b : Checked) → ByCause f t c needs text a → ByCause f t c needs text b → a ≡ b
+by_cause_once (Err cause) t c needs text a b p q = p ∙ sym q
+by_cause_once (Ok done) t c needs text a b p q = one_told t c needs text a b p q
 
 by_job_once : (text : List ℕ) (o : Outcome) (answer : List ℕ) (a b : Checked) → ByJob text o answer a → ByJob text o answer b → a ≡ b
 by_job_once text (faulty number place) answer a b p q =
@@ -182,7 +182,7 @@ meets_accepts (Buchi k) needs M pair m = m
 meets_accepts (Streett p) needs M pair m = m
 meets_accepts (Rabin p) needs M pair m = record { pair = pair; below = m.0; met = m.1 }
 
-told_accepted : (j : Job) (text answer : List ℕ) (r : Checked) → read_job text ≡ job j → first_cause (job j) ≡ Sound → r ≡ checked.Accepted
+told_accepted : (j : Job) (text answer : List ℕ) (r : Checked) → read_job text ≡ job j → first_cause (job j) ≡ Ok tt → r ≡ checked.Accepted
     → Told (job_table j) j.condition j.needs answer r → NamesAccepted text answer
 told_accepted j text answer r o s e (malformed m f) = not_accepted (sym f ∙ e)
 told_accepted j text answer r o s e (no_run n f) = not_accepted (sym f ∙ e)
@@ -201,10 +201,10 @@ told_accepted j text answer r o s e (run_judged R) =
       met = H.met;
     }
 
-cause_accepted : (j : Job) (text answer : List ℕ) (r : Checked) → read_job text ≡ job j → r ≡ checked.Accepted → (f : Finding) → first_cause (job j) ≡ f
+cause_accepted : (j : Job) (text answer : List ℕ) (r : Checked) → read_job text ≡ job j → r ≡ checked.Accepted → (f : Result Unit Refusal) → first_cause (job j) ≡ f
     → ByCause f (job_table j) j.condition j.needs answer r → NamesAccepted text answer
-cause_accepted j text answer r o e Sound s T = told_accepted j text answer r o s e T
-cause_accepted j text answer r o e (Refused number place) s T = not_accepted (sym T ∙ e)
+cause_accepted j text answer r o e (Ok done) s T = told_accepted j text answer r o s e T
+cause_accepted j text answer r o e (Err cause) s T = not_accepted (sym T ∙ e)
 
 job_accepted : (text answer : List ℕ) (r : Checked) → r ≡ checked.Accepted → (o : Outcome) → read_job text ≡ o → ByJob text o answer r → NamesAccepted text answer
 job_accepted text answer r e (faulty number place) q T = not_accepted (sym T.told ∙ e)
@@ -217,7 +217,7 @@ accepted_so text answer N =
     let told : Told (job_table j) j.condition j.needs answer checked.Accepted =
     run_judged (record { pair = N.pair; prefix = N.prefix; cycle = N.cycle; says = N.says; judged = record { lasso = N.accepted.lasso; met = N.met } }) in
     let caused : ByJob text (job j) answer checked.Accepted =
-    subst (λ (f : Finding). ByCause f (job_table j) j.condition j.needs answer checked.Accepted) (sym N.sound) told in
+    subst (λ (f : Result Unit Refusal). ByCause f (job_table j) j.condition j.needs answer checked.Accepted) (sym N.sound) told in
     subst (λ (o : Outcome). ByJob text o answer checked.Accepted) (sym N.read) caused
 
 pub accepted_exactly : (text answer : List ℕ) (r : Checked) → Checks text answer r → (r ≡ checked.Accepted) ↔ NamesAccepted text answer

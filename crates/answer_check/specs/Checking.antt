@@ -1,8 +1,7 @@
 -- What checking an answer gives, for every job text and every answer text (docs/RULES.md, "An answer that is checked"). Assumes nothing.
-use Rattle.std.specs.Prelude.{◌≡◌, List, ℕ}
+use Rattle.table.specs.declared.Refusal.{Refusal}
+use Rattle.std.specs.Prelude.{◌≡◌, List, ℕ, Result, Ok, Err}
 use Rattle.table.specs.declared.Acceptance.{Acceptance}
-use Rattle.table.specs.declared.Finding.{Finding}
-use Rattle.table.specs.declared.Finding.TheVariants.{Sound, Refused}
 use Rattle.table.specs.Table.{Table, marks_of}
 use Rattle.table.specs.Condition.{Accepted}
 use Rattle.job_text.specs.Job.{Job, Outcome, job, fault, read_job, Column}
@@ -27,9 +26,9 @@ pub data Told (t : Table) (c : Acceptance) (needs text : List ℕ) (r : Checked)
   run_judged : RunJudged t c needs text r → Told t c needs text r
 
 -- "the job's own first (20 to 23, then rows 1 to 7)"; rows 1 to 7 with column 0
-abbrev pub ByCause : Finding → Table → Acceptance → List ℕ → List ℕ → Checked → Type 0
-ByCause (Refused number place) t c needs text r = r ≡ checked.Refused number place 0
-ByCause Sound t c needs text r = Told t c needs text r
+abbrev pub ByCause : Result Unit Refusal → Table → Acceptance → List ℕ → List ℕ → Checked → Type 0
+ByCause (Err cause) t c needs text r = r ≡ checked.Refused cause.number cause.place 0
+ByCause (Ok done) t c needs text r = Told t c needs text r
 
 -- a job text at fault: number and place of its first fault, and the column of that
 pub record TextRefused (text : List ℕ) (number place : ℕ) (r : Checked) : Type 0 where
@@ -50,7 +49,7 @@ Checks text answer r = ByJob text (read_job text) answer r
 pub record NamesAccepted (text answer : List ℕ) : Type 0 where
   pub asked : Job
   pub read : read_job text ≡ job asked
-  pub sound : first_cause (job asked) ≡ Sound
+  pub sound : first_cause (job asked) ≡ Ok tt
   pub pair : ℕ
   pub prefix : List ℕ
   pub cycle : List ℕ

@@ -1,16 +1,13 @@
 -- What private contracts go by: the walk along a list of edges, and a lasso that a text names. Assumes nothing.
-use Rattle.std.specs.Prelude.{◌≡◌, Bool, true, false, List, ℕ, ◌<◌, length, get_or}
-use Rattle.std.proofs.Math.Option.{Option, some}
+use Rattle.std.specs.Prelude.{◌≡◌, Bool, true, false, List, ℕ, ◌<◌, length, get_or, Option, Some, None, Result, Ok, Err}
+use Rattle.std.proofs.Math.Option as math
 use Rattle.table.specs.Table.{Table, waiting, Stop, Step, Walk, borne, marks_of}
 use Rattle.table.specs.Refusal.{Proper}
 use Rattle.marks.specs.Mark.{union}
 use Rattle.answer_check.specs.declared.walk.Place.{Place}
-use Rattle.answer_check.specs.declared.walk.Went.{Went}
-use Rattle.answer_check.specs.declared.walk.Went.TheVariants as went
 use Rattle.answer_check.specs.declared.walk.Walked.{Walked}
-use Rattle.answer_check.specs.declared.walk.Walked.TheVariants as walked
-use Rattle.answer_check.specs.declared.lasso.Turned.{Turned}
-use Rattle.answer_check.specs.declared.lasso.Turned.TheVariants as turned
+use Rattle.answer_check.specs.declared.lasso.Flaw.{Flaw}
+use Rattle.answer_check.specs.declared.Fault.{Fault}
 use Rattle.answer_check.specs.declared.Fault.TheVariants as fault
 use Rattle.answer_check.specs.Fault.{Breaks, BadCycle, NoCycle}
 
@@ -39,15 +36,15 @@ pub record Goes (t : Table) (p : Place) (e : ℕ) (q : Place) : Type 0 where
   pub step : Step t e p.state q.state
   pub marks : q.union ≡ union p.union (borne t e)
 
-abbrev pub WentSays : Table → Place → ℕ → Went → Type 0
-WentSays t p e (went.On q) = Goes t p e q
-WentSays t p e went.Stuck = (s' : ℕ) → Step t e p.state s' → ⊥
+abbrev pub WentSays : Table → Place → ℕ → Option Place → Type 0
+WentSays t p e (Some q) = Goes t p e q
+WentSays t p e None = (s' : ℕ) → Step t e p.state s' → ⊥
 
 -- of every table with these lists
-abbrev pub WaitSays : List ℕ → Place → Went → Type 0
+abbrev pub WaitSays : List ℕ → Place → Option Place → Type 0
 WaitSays from p r = (t : Table) → Lies t from t.to t.marks → Stands t p → WentSays t p waiting r
 
-abbrev pub GoSays : List ℕ → List ℕ → List ℕ → Place → ℕ → Went → Type 0
+abbrev pub GoSays : List ℕ → List ℕ → List ℕ → Place → ℕ → Option Place → Type 0
 GoSays from to marks p e r = (t : Table) → Lies t from to marks → Stands t p → WentSays t p e r
 
 -- where a walk from a state begins
@@ -65,13 +62,13 @@ pub record Through (t : Table) (p : Place) (es : List ℕ) (q : Place) (count : 
   pub marks : q.union ≡ union p.union (marks_of t es)
   pub counted : count ≡ length es
 
-abbrev pub WalkedSays : Table → Place → List ℕ → Walked → Type 0
-WalkedSays t p es (walked.Through q count) = Through t p es q count
-WalkedSays t p es (walked.Broken i) = Breaks t p.state es i
+abbrev pub WalkedSays : Table → Place → List ℕ → Result Walked ℕ → Type 0
+WalkedSays t p es (Ok w) = Through t p es w.place w.count
+WalkedSays t p es (Err i) = Breaks t p.state es i
 
 -- of every table with these lists, if the bytes are a list of edges
-abbrev pub WalkSays : Option (List ℕ) → Place → List ℕ → List ℕ → List ℕ → Walked → Type 0
-WalkSays said p from to marks r = (t : Table) (es : List ℕ) → Lies t from to marks → Stands t p → said ≡ some es → WalkedSays t p es r
+abbrev pub WalkSays : math.Option (List ℕ) → Place → List ℕ → List ℕ → List ℕ → Result Walked ℕ → Type 0
+WalkSays said p from to marks r = (t : Table) (es : List ℕ) → Lies t from to marks → Stands t p → said ≡ math.some es → WalkedSays t p es r
 
 -- a run that a text names, on a table
 pub record Named : Type 0 where
@@ -92,9 +89,12 @@ pub record Closes (t : Table) (prefix cycle : List ℕ) (union : ℕ) : Type 0 w
   pub turns : 0 < length cycle
   pub marks : union ≡ marks_of t cycle
 
-abbrev pub TurnedSays : Named → Turned → Type 0
-TurnedSays g (turned.Closed union) = Closes g.table g.prefix g.cycle union
-TurnedSays g (turned.Faulty fault.Prefix i) = Breaks g.table g.table.start g.prefix i
-TurnedSays g (turned.Faulty fault.Empty i) = NoCycle g.table g.prefix g.cycle i
-TurnedSays g (turned.Faulty fault.Cycle i) = BadCycle g.table g.prefix g.cycle i
-TurnedSays g (turned.Faulty fault.Condition i) = ⊥
+abbrev pub FaultSays : Named → Fault → ℕ → Type 0
+FaultSays g fault.Prefix i = Breaks g.table g.table.start g.prefix i
+FaultSays g fault.Empty i = NoCycle g.table g.prefix g.cycle i
+FaultSays g fault.Cycle i = BadCycle g.table g.prefix g.cycle i
+FaultSays g fault.Condition i = ⊥
+
+abbrev pub TurnedSays : Named → Result ℕ Flaw → Type 0
+TurnedSays g (Ok union) = Closes g.table g.prefix g.cycle union
+TurnedSays g (Err flaw) = FaultSays g flaw.fault flaw.position

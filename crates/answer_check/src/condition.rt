@@ -14,10 +14,7 @@ fn answers(union: u32, i: u32) -> bool
     requires { i < most_streett }
     ensures { (result ≡ true) ↔ (Has (2 * i) union → Has (2 * i + 1) union) }
 {
-    if !has_mark(union, 2 * i) {
-        return true;
-    }
-    has_mark(union, 2 * i + 1)
+    !has_mark(union, 2 * i) || has_mark(union, 2 * i + 1)
 }
 
 // Streett: each pair.
@@ -25,27 +22,24 @@ fn meets_streett(union: u32, p: u32) -> bool
     requires { p ≤ most_streett }
     ensures { (result ≡ true) ↔ ((i : ℕ) → i < p → Has (2 * i) union → Has (2 * i + 1) union) }
 {
-    let mut i: u32 = 0;
-    while i < p {
+    for i in 0..p {
         if !answers(union, i) {
             return false;
         }
-        i += 1;
     }
     true
 }
 
 // How many marks are dealt out before the pair: its forbidden mark.
+#[tactic(auto, using(crate::proofs::Conditions::dealt_next, crate::proofs::Conditions::dealt_within))]
 fn forbidden(pair: u32, needs: [u32; 8]) -> u32
     requires pair_le_most_rabin { pair ≤ most_rabin }
     requires pair_bound { dealt needs pair ≤ width }
     ensures { result ≡ dealt needs pair }
 {
     let mut mark: u32 = 0;
-    let mut i: u32 = 0;
-    while i < pair {
-        mark += 1 + needs[i as usize];
-        i += 1;
+    for need in &needs[..pair as usize] {
+        mark += 1 + *need;
     }
     mark
 }
@@ -55,17 +49,16 @@ fn all_there(union: u32, first: u32, count: u32) -> bool
     requires { first + count ≤ width }
     ensures { (result ≡ true) ↔ ((j : ℕ) → j < count → Has (first + j) union) }
 {
-    let mut j: u32 = 0;
-    while j < count {
+    for j in 0..count {
         if !has_mark(union, first + j) {
             return false;
         }
-        j += 1;
     }
     true
 }
 
 // Rabin: the named pair is one of the condition's, its forbidden mark is not there, and its needed marks are.
+#[tactic(auto, using(crate::proofs::Conditions::dealt_up, crate::proofs::Conditions::dealt_few, crate::proofs::Conditions::dealt_within))]
 fn meets_pair(union: u32, p: u32, needs: [u32; 8], pair: u32) -> bool
     requires { wrong_condition (acceptance.Rabin p) needs ≡ false }
     ensures { (result ≡ true) ↔ Meets (acceptance.Rabin p) needs union pair }
@@ -74,10 +67,7 @@ fn meets_pair(union: u32, p: u32, needs: [u32; 8], pair: u32) -> bool
         return false;
     }
     let mark = forbidden(pair, needs);
-    if has_mark(union, mark) {
-        return false;
-    }
-    all_there(union, mark + 1, needs[pair as usize])
+    !has_mark(union, mark) && all_there(union, mark + 1, needs[pair as usize])
 }
 
 // Whether the marks meet the condition.

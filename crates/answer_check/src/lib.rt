@@ -17,11 +17,11 @@ ghost use Rattle.answer_check.specs.Checking.{Told, ByCause, Checks};
 ghost use Rattle.answer_check.specs.inner.{Named, Lies, TurnedSays};
 
 use crate::condition::meets;
-use crate::lasso::{Turned, check_lasso};
+use crate::lasso::{Flaw, check_lasso};
 use answer_form::{Form, read_answer};
 use answer_text::is_rabin;
 use job_text::reader::read;
-use table::{Acceptance, Finding};
+use table::Acceptance;
 
 // What is wrong with a run: its prefix breaks, its cycle is empty, its cycle breaks or does not close, or the condition is not met.
 #[derive(Clone, Copy)]
@@ -48,21 +48,17 @@ pub enum Checked {
 }
 
 // What becomes of a run, by its lasso and the condition.
-fn conclude(turned: Turned, condition: Acceptance, needs: [u32; 8], pair: u32) -> Checked
+fn conclude(turned: Result<u32, Flaw>, condition: Acceptance, needs: [u32; 8], pair: u32) -> Checked
     requires { wrong_condition condition needs ≡ false }
     ensures { (g : Named) → TurnedSays g turned → Judged g.table condition needs pair g.prefix g.cycle result }
 {
     match turned {
-        Turned::Faulty { fault, position } => Checked::Rejected { fault, position },
-        Turned::Closed { union } => {
-            if meets(union, condition, needs, pair) {
-                return Checked::Accepted;
-            }
-            Checked::Rejected {
-                fault: Fault::Condition,
-                position: 0,
-            }
-        }
+        Err(Flaw { fault, position }) => Checked::Rejected { fault, position },
+        Ok(union) if meets(union, condition, needs, pair) => Checked::Accepted,
+        Ok(_) => Checked::Rejected {
+            fault: Fault::Condition,
+            position: 0,
+        },
     }
 }
 
@@ -81,23 +77,25 @@ fn check_sound(
     ensures { (t : Table) → Lies t from.now to.now marks.now → t.start ≡ start → Told t condition needs answer.now result }
 {
     match read_answer(answer, is_rabin(condition)) {
-        Form::Malformed => Checked::Refused {
+        None => Checked::Refused {
             number: 50,
             place: 0,
             column: 0,
         },
-        Form::NoRun => Checked::Refused {
+        Some(Form::NoRun) => Checked::Refused {
             number: 51,
             place: 0,
             column: 0,
         },
-        Form::Run {
-            pair,
-            prefix,
-            middle,
-            cycle,
-            last,
-        } => {
+        Some(
+            Form::Run {
+                pair,
+                prefix,
+                middle,
+                cycle,
+                last,
+            },
+        ) => {
             let turned = check_lasso(
                 &answer[prefix..middle],
                 &answer[cycle..last],
@@ -125,12 +123,12 @@ fn check_table(
     ensures { ByCause (refusal (lent states start from.now to.now marks.now) condition needs) (lent states start from.now to.now marks.now) condition needs answer.now result }
 {
     match table::check(states, start, from, to, marks, condition, needs) {
-        Finding::Refused { number, place } => Checked::Refused {
-            number,
-            place,
+        Err(cause) => Checked::Refused {
+            number: cause.number,
+            place: cause.place,
             column: 0,
         },
-        Finding::Sound => check_sound(answer, start, from, to, marks, condition, needs),
+        Ok(()) => check_sound(answer, start, from, to, marks, condition, needs),
     }
 }
 
@@ -143,11 +141,10 @@ pub fn check_answer(job: &[u8], answer: &[u8]) -> Checked
     let mut to = [0u32; 512];
     let mut marks = [0u32; 512];
     let read = read(job, &mut from, &mut to, &mut marks);
-    let finding = read.finding;
-    if let Finding::Refused { number, place } = finding {
+    if let Err(cause) = read.finding {
         return Checked::Refused {
-            number,
-            place,
+            number: cause.number,
+            place: cause.place,
             column: read.column,
         };
     }

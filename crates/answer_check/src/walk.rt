@@ -8,8 +8,7 @@ ghost use Rattle.answer_form.specs.Given.{steps, list_given};
 ghost use Rattle.answer_check.specs.inner.{outset, LeftBy, WaitSays, GoSays, WalkSays};
 
 use answer_form::{WAITING, read_step};
-use job_values::number::Number;
-use job_values::part::{alike, find};
+use job_values::part::find;
 
 const COMMA: u8 = 44;
 
@@ -21,18 +20,11 @@ pub(crate) struct Place {
     pub waits: bool,
 }
 
-// One edge further, or no such step.
+// A whole list walked: the place at its end and the number of its edges.
 #[derive(Clone, Copy)]
-pub(crate) enum Went {
-    On(Place),
-    Stuck,
-}
-
-// The whole list walked, with the place at its end and the number of its edges; or the position at which it breaks.
-#[derive(Clone, Copy)]
-pub(crate) enum Walked {
-    Through { place: Place, count: usize },
-    Broken { position: usize },
+pub(crate) struct Walked {
+    pub place: Place,
+    pub count: usize,
 }
 
 // Where a walk from a state begins.
@@ -50,61 +42,41 @@ pub(crate) fn set_out(state: u32) -> Place
 fn leaves(from: &[u32], state: u32) -> bool
     ensures { LeftBy from.now state result }
 {
-    let mut e = 0;
-    while e < from.len() {
-        if from[e] == state {
-            return true;
-        }
-        e += 1;
-    }
-    false
+    from.contains(&state)
 }
 
-// A waiting edge.
-fn wait(place: Place, from: &[u32]) -> Went
+// A waiting edge; none where an edge leaves.
+fn wait(place: Place, from: &[u32]) -> Option<Place>
     ensures { WaitSays from.now place result }
 {
-    let state = place.state;
-    let union = place.union;
-    if place.waits {
-        return Went::On(Place {
-            state,
-            union,
-            waits: true,
-        });
+    if !place.waits && leaves(from, place.state) {
+        return None;
     }
-    if leaves(from, state) {
-        return Went::Stuck;
-    }
-    Went::On(Place {
-        state,
-        union,
+    Some(Place {
         waits: true,
+        ..place
     })
 }
 
-// An edge of the table.
-fn take_edge(place: Place, edge: u32, from: &[u32], to: &[u32], marks: &[u32]) -> Went
+// An edge of the table; none where it does not leave from here.
+fn take_edge(place: Place, edge: u32, from: &[u32], to: &[u32], marks: &[u32]) -> Option<Place>
     requires even { Even from.now to.now marks.now }
     requires fact { edge ≡ waiting → ⊥ }
     ensures { GoSays from.now to.now marks.now place edge result }
 {
     let e = edge as usize;
-    if from.len() <= e {
-        return Went::Stuck;
+    if from.len() <= e || from[e] != place.state {
+        return None;
     }
-    if from[e] != place.state {
-        return Went::Stuck;
-    }
-    Went::On(Place {
+    Some(Place {
         state: to[e],
         union: marks::join(place.union, marks[e]),
         waits: false,
     })
 }
 
-// One edge further.
-fn go(place: Place, edge: u32, from: &[u32], to: &[u32], marks: &[u32]) -> Went
+// One edge further, if there is such a step.
+fn go(place: Place, edge: u32, from: &[u32], to: &[u32], marks: &[u32]) -> Option<Place>
     requires { Even from.now to.now marks.now }
     ensures { GoSays from.now to.now marks.now place edge result }
 {
@@ -114,8 +86,14 @@ fn go(place: Place, edge: u32, from: &[u32], to: &[u32], marks: &[u32]) -> Went
     take_edge(place, edge, from, to, marks)
 }
 
-// A list of at least one edge, walked from a place.
-fn walk_edges(list: &[u8], begin: Place, from: &[u32], to: &[u32], marks: &[u32]) -> Walked
+// A list of at least one edge, walked from a place; or the position at which it breaks.
+fn walk_edges(
+    list: &[u8],
+    begin: Place,
+    from: &[u32],
+    to: &[u32],
+    marks: &[u32],
+) -> Result<Walked, usize>
     requires { Even from.now to.now marks.now }
     ensures { WalkSays (steps (fields list.now)) begin from.now to.now marks.now result }
 {
@@ -124,33 +102,34 @@ fn walk_edges(list: &[u8], begin: Place, from: &[u32], to: &[u32], marks: &[u32]
     let mut position = 0;
     while at <= list.len() {
         let end = find(list, at, COMMA);
-        let Number::Value(edge) = read_step(&list[at..end]) else {
-            // never: the list is one of edges
-            return Walked::Broken { position };
-        };
-        let Went::On(next) = go(place, edge, from, to, marks) else {
-            return Walked::Broken { position };
-        };
-        place = next;
+        // the list is one of edges, so this is never none
+        let edge = read_step(&list[at..end]).ok_or(position)?;
+        place = go(place, edge, from, to, marks).ok_or(position)?;
         at = end + 1;
         position += 1;
     }
-    Walked::Through {
+    Ok(Walked {
         place,
         count: position,
-    }
+    })
 }
 
-// A list, walked from a place.
-pub(crate) fn walk(list: &[u8], begin: Place, from: &[u32], to: &[u32], marks: &[u32]) -> Walked
+// A list, walked from a place; or the position at which it breaks.
+pub(crate) fn walk(
+    list: &[u8],
+    begin: Place,
+    from: &[u32],
+    to: &[u32],
+    marks: &[u32],
+) -> Result<Walked, usize>
     requires { Even from.now to.now marks.now }
     ensures { WalkSays (list_given list.now) begin from.now to.now marks.now result }
 {
-    if alike(list, b"-") {
-        return Walked::Through {
+    if list == b"-".as_slice() {
+        return Ok(Walked {
             place: begin,
             count: 0,
-        };
+        });
     }
     walk_edges(list, begin, from, to, marks)
 }

@@ -1,37 +1,46 @@
 -- A text read from a place on: a value with the word behind it, a run's values, and the list of edges field by field. Assumes nothing.
 use mathlib.Core.Path.{◌≡◌, refl, sym, ap, ◌∙◌}
-use mathlib.Core.Bool.{Bool, true, false, false≢true, cond}
+use mathlib.Core.Bool.{true, false, false≢true}
 use mathlib.Core.List.{List, [], ◌∷◌}
 use mathlib.Core.Option.{Option, some, none}
 use Prim.Native.Nat.{ℕ, ◌+◌, ◌-◌, ◌≤◌, ◌<◌, zero-le}
 use native.Mathlib.Omega.{arith}
 use lib.Dec.{eqb}
 use lib.ListN.{length, take, drop, length-take, length-drop}
-use lib.Seq.{drop-drop}
-use borrow.Author.Tests.{le-leb, lt-leb, eq-eqb, ne_eqb}
+use lib.Seq.{take_all, drop-drop}
+use borrow.Author.Tests.{le-leb, lt-leb, ne_eqb}
 use Rattle.table.specs.Row.{part}
-use Rattle.table.specs.Table.{waiting}
 use Rattle.job_text.specs.Text.{newline, comma, fields, same, ahead, FirstAt}
 use Rattle.job_text.specs.Value.{and_then, dash, number}
-use Rattle.job_values.specs.declared.number.Number.{Number}
-use Rattle.job_values.specs.declared.number.Number.TheVariants as num
-use Rattle.job_values.specs.Given.{number_given}
-use Rattle.job_text.proofs.Text.{same_length}
+use Rattle.std.proofs.Common as code
+use Rattle.std.proofs.Common.{nat_eq}
+use Rattle.std.specs.List as library
+use Rattle.std.proofs.lemmas.Bool.Decides.{nat_tests}
+use Rattle.job_values.proofs.Cut.{same_pointwise}
 use Rattle.job_values.proofs.Cut.{left, left_cut}
-use Rattle.answer_text.specs.Printed.{stop}
 use Rattle.answer_form.specs.declared.Value.{Value}
-use Rattle.answer_form.specs.declared.RunValues.{RunValues}
 use Rattle.answer_form.specs.Form.{refused, empty}
-use Rattle.answer_form.specs.Given.{starts_with, value_then, ValueAt, step, steps, list_given, is_some, pair_given, then_prefix, then_cycle, then_place, then_column, refused_tail, empty_tail, run_text, ValuesAt, where_given, refused_given, empty_given}
+use Rattle.answer_form.specs.Given.{starts_with, value_then, ValueAt, step, steps, list_given, is_some, then_prefix, then_cycle, then_place, then_column, refused_tail, empty_tail, run_text, ValuesAt, where_given, refused_given, empty_given}
 use Rattle.answer_form.proofs.Digits.{some_same}
 use Rattle.job_values.proofs.Spoken.{same_is}
 
 -- ---- a word
 
-pub starts_short : (text word : List ℕ) (at : ℕ) → length text - at < length word → starts_with word (drop at text) ≡ false
-starts_short text word at l =
-    same_length (take (length word) (drop at text)) word
-    (λ (q : length (take (length word) (drop at text)) ≡ length word). omega (arith, length-take (length word) (drop at text), length-drop at text))
+eqb_sym : (x y : ℕ) → eqb x y ≡ eqb y x
+eqb_sym x y = grind (arith, nat_tests)
+
+same_sym : (xs ys : List ℕ) → same xs ys ≡ same ys xs
+unfolding same
+same_sym [] [] = refl
+same_sym [] (y ∷ ys) = refl
+same_sym (x ∷ xs) [] = refl
+same_sym (x ∷ xs) (y ∷ ys) = let e : eqb x y ≡ eqb y x = eqb_sym x y in rw (e, same_sym xs ys)
+
+-- the library's word for it, which compares the bytes the other way round
+pub starts_same : (word text : List ℕ) (at : ℕ) → library.starts_with nat_eq (take (length text - at) (drop at text)) word ≡ starts_with word (drop at text)
+starts_same word text at =
+    rw (take_all (length text - at) (drop at text) (omega (arith, length-drop at text)))
+    (same_pointwise word (take (length word) (drop at text)) ∙ same_sym word (take (length word) (drop at text)))
 
 pub starts_fits : (text word : List ℕ) (at : ℕ) → starts_with word (drop at text) ≡ true → at ≤ length text → at + length word ≤ length text
 starts_fits text word at t l =
@@ -47,22 +56,17 @@ module _ (text word : List ℕ) (at end : ℕ) (f : FirstAt text at newline end)
   long : end - at ≡ ahead newline (drop at text)
   long = omega (arith, f.place)
 
-  pub value_missing : starts_with word (drop end text) ≡ false → ValueAt text at word (record { found = false; end = 0; next = 0 })
+  pub value_missing : starts_with word (drop end text) ≡ false → ValueAt text at word code.None
   unfolding value_then
-  value_missing t =
-      record {
-        is = rw (stands, t);
-        there = λ e. absurd (false≢true e);
-        next_there = λ e. absurd (false≢true e);
-      }
+  value_missing t = record { is = rw (stands, t); there = tt; next_there = tt }
 
-  pub value_found : starts_with word (drop end text) ≡ true → ValueAt text at word (record { found = true; end = end; next = end + length word })
+  pub value_found : starts_with word (drop end text) ≡ true → ValueAt text at word (code.Some (record { end = end; next = end + length word }))
   unfolding value_then
   value_found t =
       record {
         is = rw (stands, t, long, drop-drop (length word) end text);
-        there = λ e. record { low = f.low; high = f.high l };
-        next_there = λ e. starts_fits text word end t (f.high l);
+        there = record { low = f.low; high = f.high l };
+        next_there = starts_fits text word end t (f.high l);
       }
 
 -- ---- by whether there is something
@@ -80,12 +84,12 @@ some_then none p g e = absurd (false≢true e)
 some_then (some n) p g e = then_some p (g n)
 
 -- what is not found is not there
-pub no_value : (text word : List ℕ) (at : ℕ) (v : Value) → ValueAt text at word v → v.found ≡ false → value_then word (drop at text) ≡ none
-no_value text word at v W e = sym W.is ∙ rw e
+pub no_value : (text word : List ℕ) (at : ℕ) → ValueAt text at word code.None → value_then word (drop at text) ≡ none
+no_value text word at W = sym W.is
 
-pub some_value : (text word : List ℕ) (at : ℕ) (v : Value) → ValueAt text at word v → v.found ≡ true
+pub some_value : (text word : List ℕ) (at : ℕ) (v : Value) → ValueAt text at word (code.Some v)
     → value_then word (drop at text) ≡ some (record { value = part at v.end text; rest = drop v.next text })
-some_value text word at v W e = sym W.is ∙ rw e
+some_value text word at v W = sym W.is
 
 -- what is left behind the end of a text
 ended : (text : List ℕ) (at : ℕ) → at ≡ length text → eqb (length (drop at text)) 0 ≡ true
@@ -96,149 +100,101 @@ unended text at l h = ne_eqb (length (drop at text)) 0 (λ (e : length (drop at 
 
 -- ---- a run's values
 
-no_run_values : (text : List ℕ) (at : ℕ) (r : RunValues) → r.found ≡ false → run_text (drop at text) ≡ none → ValuesAt text at r
-no_run_values text at r e n =
-    record {
-      is = rw (e, n);
-      pair = λ q. absurd (false≢true (sym e ∙ q));
-      prefix = λ q. absurd (false≢true (sym e ∙ q));
-      cycle = λ q. absurd (false≢true (sym e ∙ q));
-    }
+no_run_values : (text : List ℕ) (at : ℕ) → run_text (drop at text) ≡ none → ValuesAt text at code.None
+no_run_values text at n = record { is = sym n; pair = tt; prefix = tt; cycle = tt }
 
-module _ (text : List ℕ) (at : ℕ) (a : Value) (A : ValueAt text at then_prefix a) where
-  pub no_pair_value : (r : RunValues) → r.found ≡ false → a.found ≡ false → ValuesAt text at r
+pub no_pair_value : (text : List ℕ) (at : ℕ) → ValueAt text at then_prefix code.None → ValuesAt text at code.None
+unfolding run_text
+no_pair_value text at A = no_run_values text at (rw (no_value text then_prefix at A))
+
+module _ (text : List ℕ) (at : ℕ) (a : Value) (A : ValueAt text at then_prefix (code.Some a)) where
+  pub no_prefix_value : ValueAt text a.next then_cycle code.None → ValuesAt text at code.None
   unfolding run_text
-  no_pair_value r z e = no_run_values text at r z (rw (no_value text then_prefix at a A e))
+  no_prefix_value B = no_run_values text at (rw (some_value text then_prefix at a A, no_value text then_cycle a.next B))
 
-  module _ (e : a.found ≡ true) (b : Value) (B : ValueAt text a.next then_cycle b) where
-    pub no_prefix_value : (r : RunValues) → r.found ≡ false → b.found ≡ false → ValuesAt text at r
+  module _ (b : Value) (B : ValueAt text a.next then_cycle (code.Some b)) where
+    pub no_cycle_value : ValueAt text b.next (newline ∷ []) code.None → ValuesAt text at code.None
     unfolding run_text
-    no_prefix_value r z f = no_run_values text at r z (rw (some_value text then_prefix at a A e, no_value text then_cycle a.next b B f))
+    no_cycle_value D =
+        no_run_values text at (rw (some_value text then_prefix at a A, some_value text then_cycle a.next b B, no_value text (newline ∷ []) b.next D))
 
-    module _ (f : b.found ≡ true) (d : Value) (D : ValueAt text b.next (newline ∷ []) d) where
-      pub no_cycle_value : (r : RunValues) → r.found ≡ false → d.found ≡ false → ValuesAt text at r
+    module _ (d : Value) (D : ValueAt text b.next (newline ∷ []) (code.Some d)) where
+      pub more_behind : (d.next ≡ length text → ⊥) → ValuesAt text at code.None
       unfolding run_text
-      no_cycle_value r z g =
-          no_run_values text at r z
-          (rw (some_value text then_prefix at a A e, some_value text then_cycle a.next b B f, no_value text (newline ∷ []) b.next d D g))
+      more_behind h =
+          no_run_values text at
+          (rw (some_value text then_prefix at a A, some_value text then_cycle a.next b B, some_value text (newline ∷ []) b.next d D, unended text d.next D.next_there h))
 
-      module _ (g : d.found ≡ true) where
-        pub more_behind : (r : RunValues) → r.found ≡ false → (d.next ≡ length text → ⊥) → ValuesAt text at r
-        unfolding run_text
-        more_behind r z h =
-            no_run_values text at r z
-            (rw (some_value text then_prefix at a A e, some_value text then_cycle a.next b B f, some_value text (newline ∷ []) b.next d D g, unended text d.next (D.next_there g) h))
-
-        pub all_values : d.next ≡ length text
-            → ValuesAt text at (record { found = true; pair = a.end; prefix = a.next; middle = b.end; cycle = b.next; last = d.end })
-        unfolding run_text
-        all_values h =
-            record {
-              is = rw (some_value text then_prefix at a A e, some_value text then_cycle a.next b B f, some_value text (newline ∷ []) b.next d D g, ended text d.next h);
-              pair = λ q. A.there e;
-              prefix = λ q. B.there f;
-              cycle = λ q. D.there g;
-            }
+      pub all_values : d.next ≡ length text
+          → ValuesAt text at (code.Some (record { pair = a.end; prefix = a.next; middle = b.end; cycle = b.next; last = d.end }))
+      unfolding run_text
+      all_values h =
+          record {
+            is = rw (some_value text then_prefix at a A, some_value text then_cycle a.next b B, some_value text (newline ∷ []) b.next d D, ended text d.next h);
+            pair = A.there;
+            prefix = B.there;
+            cycle = D.there;
+          }
 
 -- ---- a refusal's place and column
 
-module _ (text : List ℕ) (at : ℕ) (a : Value) (A : ValueAt text at then_column a) where
-  pub no_place : a.found ≡ false → is_some (where_given (drop at text)) ≡ false
+pub no_place : (text : List ℕ) (at : ℕ) → ValueAt text at then_column code.None → is_some (where_given (drop at text)) ≡ false
+unfolding where_given
+no_place text at A = rw (no_value text then_column at A)
+
+module _ (text : List ℕ) (at : ℕ) (a : Value) (A : ValueAt text at then_column (code.Some a)) where
+  pub no_column : ValueAt text a.next refused_tail code.None → is_some (where_given (drop at text)) ≡ false
   unfolding where_given
-  no_place e = rw (no_value text then_column at a A e)
+  no_column B = rw (some_value text then_column at a A, no_value text refused_tail a.next B)
 
-  module _ (e : a.found ≡ true) (b : Value) (B : ValueAt text a.next refused_tail b) where
-    pub no_column : b.found ≡ false → is_some (where_given (drop at text)) ≡ false
+  module _ (b : Value) (B : ValueAt text a.next refused_tail (code.Some b)) where
+    pub where_behind : (b.next ≡ length text → ⊥) → is_some (where_given (drop at text)) ≡ false
     unfolding where_given
-    no_column f = rw (some_value text then_column at a A e, no_value text refused_tail a.next b B f)
+    where_behind h = rw (some_value text then_column at a A, some_value text refused_tail a.next b B, unended text b.next B.next_there h)
 
-    module _ (f : b.found ≡ true) where
-      pub where_behind : (b.next ≡ length text → ⊥) → is_some (where_given (drop at text)) ≡ false
+    module _ (h : b.next ≡ length text) where
+      pub wrong_place_lem : is_some (number (part at a.end text)) ≡ false → is_some (where_given (drop at text)) ≡ false
       unfolding where_given
-      where_behind h = rw (some_value text then_column at a A e, some_value text refused_tail a.next b B f, unended text b.next (B.next_there f) h)
+      wrong_place_lem n =
+          rw (some_value text then_column at a A, some_value text refused_tail a.next b B, ended text b.next h) (none_then (number (part at a.end text)) _ n)
 
-      module _ (h : b.next ≡ length text) where
-        pub wrong_place_lem : is_some (number (part at a.end text)) ≡ false → is_some (where_given (drop at text)) ≡ false
-        unfolding where_given
-        wrong_place_lem n =
-            rw (some_value text then_column at a A e, some_value text refused_tail a.next b B f, ended text b.next h) (none_then (number (part at a.end text)) _ n)
-
-        pub right_place : is_some (number (part at a.end text)) ≡ true → is_some (where_given (drop at text)) ≡ is_some (number (part a.next b.end text))
-        unfolding where_given
-        right_place n =
-            rw (some_value text then_column at a A e, some_value text refused_tail a.next b B f, ended text b.next h)
-            (some_then (number (part at a.end text)) (number (part a.next b.end text)) (λ place column. record { place = place; column = column }) n)
+      pub right_place : is_some (number (part at a.end text)) ≡ true → is_some (where_given (drop at text)) ≡ is_some (number (part a.next b.end text))
+      unfolding where_given
+      right_place n =
+          rw (some_value text then_column at a A, some_value text refused_tail a.next b B, ended text b.next h)
+          (some_then (number (part at a.end text)) (number (part a.next b.end text)) (λ place column. record { place = place; column = column }) n)
 
 -- ---- a refusal's number
 
-module _ (text : List ℕ) (at : ℕ) (a : Value) (A : ValueAt text at then_place a) where
-  pub no_number : a.found ≡ false → is_some (refused_given (drop at text)) ≡ false
+pub no_number : (text : List ℕ) (at : ℕ) → ValueAt text at then_place code.None → is_some (refused_given (drop at text)) ≡ false
+unfolding refused_given
+no_number text at A = rw (no_value text then_place at A)
+
+module _ (text : List ℕ) (at : ℕ) (a : Value) (A : ValueAt text at then_place (code.Some a)) where
+  pub wrong_number : is_some (number (part at a.end text)) ≡ false → is_some (refused_given (drop at text)) ≡ false
   unfolding refused_given
-  no_number e = rw (no_value text then_place at a A e)
+  wrong_number n = rw (some_value text then_place at a A) (none_then (number (part at a.end text)) _ n)
 
-  module _ (e : a.found ≡ true) where
-    pub wrong_number : is_some (number (part at a.end text)) ≡ false → is_some (refused_given (drop at text)) ≡ false
-    unfolding refused_given
-    wrong_number n = rw (some_value text then_place at a A e) (none_then (number (part at a.end text)) _ n)
-
-    pub right_number : is_some (number (part at a.end text)) ≡ true → is_some (refused_given (drop at text)) ≡ is_some (where_given (drop a.next text))
-    unfolding refused_given
-    right_number n =
-        rw (some_value text then_place at a A e)
-        (some_then (number (part at a.end text)) (where_given (drop a.next text)) (λ n w. refused n w.place w.column) n)
+  pub right_number : is_some (number (part at a.end text)) ≡ true → is_some (refused_given (drop at text)) ≡ is_some (where_given (drop a.next text))
+  unfolding refused_given
+  right_number n =
+      rw (some_value text then_place at a A)
+      (some_then (number (part at a.end text)) (where_given (drop a.next text)) (λ n w. refused n w.place w.column) n)
 
 -- ---- an empty verdict's depth
 
-module _ (text : List ℕ) (at : ℕ) (a : Value) (A : ValueAt text at empty_tail a) where
-  pub no_depth_lem : a.found ≡ false → is_some (empty_given (drop at text)) ≡ false
+pub no_depth_lem : (text : List ℕ) (at : ℕ) → ValueAt text at empty_tail code.None → is_some (empty_given (drop at text)) ≡ false
+unfolding empty_given
+no_depth_lem text at A = rw (no_value text empty_tail at A)
+
+module _ (text : List ℕ) (at : ℕ) (a : Value) (A : ValueAt text at empty_tail (code.Some a)) where
+  pub depth_behind : (a.next ≡ length text → ⊥) → is_some (empty_given (drop at text)) ≡ false
   unfolding empty_given
-  no_depth_lem e = rw (no_value text empty_tail at a A e)
+  depth_behind h = rw (some_value text empty_tail at a A, unended text a.next A.next_there h)
 
-  module _ (e : a.found ≡ true) where
-    pub depth_behind : (a.next ≡ length text → ⊥) → is_some (empty_given (drop at text)) ≡ false
-    unfolding empty_given
-    depth_behind h = rw (some_value text empty_tail at a A e, unended text a.next (A.next_there e) h)
-
-    pub right_depth : a.next ≡ length text → is_some (empty_given (drop at text)) ≡ is_some (number (part at a.end text))
-    unfolding empty_given
-    right_depth h = rw (some_value text empty_tail at a A e, ended text a.next h) (then_some (number (part at a.end text)) empty)
-
--- ---- values
-
--- what a number's reader says
-pub is_some_lem : (r : Number) (o : Option ℕ) (n : ℕ) → number_given r ≡ o → r ≡ num.Value n → is_some o ≡ true
-is_some_lem r o n e q = ap is_some (sym e ∙ ap number_given q)
-
-pub is_none : (r : Number) (o : Option ℕ) → number_given r ≡ o → r ≡ num.Wrong → is_some o ≡ false
-is_none r o e q = ap is_some (sym e ∙ ap number_given q)
-
--- a step
-pub step_waits : (bs : List ℕ) → same bs stop ≡ true → step bs ≡ some waiting
-unfolding step
-step_waits bs t = rw t
-
-module _ (bs : List ℕ) (t : same bs stop ≡ false) where
-  pub step_none : number bs ≡ none → step bs ≡ none
-  unfolding step
-  step_none n = rw (t, n)
-
-  module _ (e : ℕ) (n : number bs ≡ some e) where
-    pub step_digits : e ≡ waiting → step bs ≡ none
-    unfolding step
-    step_digits q = rw (t, n, eq-eqb e waiting q)
-
-    pub step_number : (e ≡ waiting → ⊥) → step bs ≡ some e
-    unfolding step
-    step_number h = rw (t, n, ne_eqb e waiting h)
-
--- a pair
-pub pair_number : (bs : List ℕ) (rabin : Bool) → rabin ≡ true → pair_given rabin bs ≡ number bs
-unfolding pair_given
-pair_number bs rabin t = rw t
-
-pub pair_dash : (bs : List ℕ) (rabin : Bool) (b : Bool) → rabin ≡ false → same bs dash ≡ b → pair_given rabin bs ≡ cond b (some 0) none
-unfolding pair_given
-pair_dash bs rabin b t e = rw (t, e)
+  pub right_depth : a.next ≡ length text → is_some (empty_given (drop at text)) ≡ is_some (number (part at a.end text))
+  unfolding empty_given
+  right_depth h = rw (some_value text empty_tail at a A, ended text a.next h) (then_some (number (part at a.end text)) empty)
 
 -- ---- a list, field by field
 
@@ -280,10 +236,6 @@ none_left = refl
 
 pub decides_yes : (bs : List ℕ) (at : ℕ) → Decides bs at → length bs < at → is_some (steps (fields bs)) ≡ true
 decides_yes bs at D l = D ∙ ap (λ (fs : List (List ℕ)). is_some (steps fs)) (left_none bs at l) ∙ none_left
-
-pub list_dash : (bs : List ℕ) → same bs dash ≡ true → is_some (list_given bs) ≡ true
-unfolding list_given
-list_dash bs t = rw t
 
 pub list_steps : (bs : List ℕ) → same bs dash ≡ false → list_given bs ≡ steps (fields bs)
 unfolding list_given

@@ -3,6 +3,7 @@ use mathlib.Core.Path.{◌≡◌, refl, sym, ap, ◌∙◌}
 use mathlib.Core.Bool.{Bool, true, false, false≢true}
 use mathlib.Core.List.{List}
 use mathlib.Core.Option.{Option, some, none}
+use Rattle.std.proofs.Common as code
 use Prim.Native.Nat.{ℕ}
 use native.Mathlib.Omega.{arith}
 use lib.ListN.{length, drop}
@@ -31,46 +32,45 @@ run_of_lem : (rabin : Bool) (v : RunText) (pair : ℕ) (p q : List ℕ) → pair
     → run_of rabin v ≡ some (run pair p q)
 run_of_lem rabin v pair p q e f g = rw (e, f, g)
 
-module _ (rabin : Bool) (text : List ℕ) (at : ℕ) (r : RunValues) (W : ValuesAt text at r) where
-  pub run_missing : r.found ≡ false → run_given rabin (drop at text) ≡ none
-  run_missing f =
-      let none_there : run_text (drop at text) ≡ none = sym W.is ∙ rw f in
-      ap (λ (o : Option RunText). and_then o (run_of rabin)) none_there
+pub run_missing : (rabin : Bool) (text : List ℕ) (at : ℕ) → ValuesAt text at code.None → run_given rabin (drop at text) ≡ none
+run_missing rabin text at W =
+    let none_there : run_text (drop at text) ≡ none = sym W.is in
+    ap (λ (o : Option RunText). and_then o (run_of rabin)) none_there
 
-  module _ (f : r.found ≡ true) where
-    run_is : run_given rabin (drop at text)
-        ≡ run_of rabin (record { pair = part at r.pair text; prefix = part r.prefix r.middle text; cycle = part r.cycle r.last text })
-    run_is =
-        let there : run_text (drop at text)
-        ≡ some (record { pair = part at r.pair text; prefix = part r.prefix r.middle text; cycle = part r.cycle r.last text }) = sym W.is ∙ rw f in
-        ap (λ (o : Option RunText). and_then o (run_of rabin)) there
+module _ (rabin : Bool) (text : List ℕ) (at : ℕ) (r : RunValues) (W : ValuesAt text at (code.Some r)) where
+  run_is : run_given rabin (drop at text)
+      ≡ run_of rabin (record { pair = part at r.pair text; prefix = part r.prefix r.middle text; cycle = part r.cycle r.last text })
+  run_is =
+      let there : run_text (drop at text)
+      ≡ some (record { pair = part at r.pair text; prefix = part r.prefix r.middle text; cycle = part r.cycle r.last text }) = sym W.is in
+      ap (λ (o : Option RunText). and_then o (run_of rabin)) there
 
-    pub pair_wrong : pair_given rabin (part at r.pair text) ≡ none → run_given rabin (drop at text) ≡ none
-    pair_wrong e = run_is ∙ rw e
+  pub pair_wrong : pair_given rabin (part at r.pair text) ≡ none → run_given rabin (drop at text) ≡ none
+  pair_wrong e = run_is ∙ rw e
 
-    module _ (pair : ℕ) (p : pair_given rabin (part at r.pair text) ≡ some pair) where
-      pub prefix_wrong : is_some (list_given (part r.prefix r.middle text)) ≡ false → run_given rabin (drop at text) ≡ none
-      prefix_wrong e = run_is ∙ rw (p, none_of (list_given (part r.prefix r.middle text)) e)
+  module _ (pair : ℕ) (p : pair_given rabin (part at r.pair text) ≡ some pair) where
+    pub prefix_wrong : is_some (list_given (part r.prefix r.middle text)) ≡ false → run_given rabin (drop at text) ≡ none
+    prefix_wrong e = run_is ∙ rw (p, none_of (list_given (part r.prefix r.middle text)) e)
 
-      module _ (q : is_some (list_given (part r.prefix r.middle text)) ≡ true) where
-        pub cycle_wrong : is_some (list_given (part r.cycle r.last text)) ≡ false → run_given rabin (drop at text) ≡ none
-        cycle_wrong e =
-            run_is ∙ rw (p, (some_of (list_given (part r.prefix r.middle text)) q).1, none_of (list_given (part r.cycle r.last text)) e)
+    module _ (q : is_some (list_given (part r.prefix r.middle text)) ≡ true) where
+      pub cycle_wrong : is_some (list_given (part r.cycle r.last text)) ≡ false → run_given rabin (drop at text) ≡ none
+      cycle_wrong e =
+          run_is ∙ rw (p, (some_of (list_given (part r.prefix r.middle text)) q).1, none_of (list_given (part r.cycle r.last text)) e)
 
-        pub run_whole : is_some (list_given (part r.cycle r.last text)) ≡ true
-            → RunAt (run_given rabin (drop at text)) text pair r.prefix r.middle r.cycle r.last
-        run_whole e =
-            let a = some_of (list_given (part r.prefix r.middle text)) q in
-            let b = some_of (list_given (part r.cycle r.last text)) e in
-            record {
-              prefix = a.0;
-              cycle = b.0;
-              says = run_is ∙ run_of_lem rabin _ pair a.0 b.0 p a.1 b.1;
-              prefix_listed = a.1;
-              cycle_listed = b.1;
-              prefix_there = W.prefix f;
-              cycle_there = W.cycle f;
-            }
+      pub run_whole : is_some (list_given (part r.cycle r.last text)) ≡ true
+          → RunAt (run_given rabin (drop at text)) text pair r.prefix r.middle r.cycle r.last
+      run_whole e =
+          let a = some_of (list_given (part r.prefix r.middle text)) q in
+          let b = some_of (list_given (part r.cycle r.last text)) e in
+          record {
+            prefix = a.0;
+            cycle = b.0;
+            says = run_is ∙ run_of_lem rabin _ pair a.0 b.0 p a.1 b.1;
+            prefix_listed = a.1;
+            cycle_listed = b.1;
+            prefix_there = W.prefix;
+            cycle_there = W.cycle;
+          }
 
 -- ---- a refusal is no run
 
@@ -103,12 +103,12 @@ no_run_says text (some s) other = record { answer = s; says = refl; other = othe
 -- ---- the whole text
 
 module _ (rabin : Bool) (text : List ℕ) where
-  pub answer_empty : starts_with empty_head text ≡ true → (f : Form) (b : Bool) → f ≡ no_run b → b ≡ is_some (empty_given (drop (length empty_head) text)) → FormSays (given rabin text) text f
+  pub answer_empty : starts_with empty_head text ≡ true → (f : code.Option Form) (b : Bool) → f ≡ no_run b → b ≡ is_some (empty_given (drop (length empty_head) text)) → FormSays (given rabin text) text f
   unfolding given
   answer_empty t f b e q = rw (e, q, t) (no_run_says text (empty_given (drop (length empty_head) text)) (empty_other (drop (length empty_head) text)))
 
   module _ (t : starts_with empty_head text ≡ false) where
-    pub answer_run : starts_with run_head text ≡ true → (f : Form) → FormSays (run_given rabin (drop (length run_head) text)) text f → FormSays (given rabin text) text f
+    pub answer_run : starts_with run_head text ≡ true → (f : code.Option Form) → FormSays (run_given rabin (drop (length run_head) text)) text f → FormSays (given rabin text) text f
     unfolding given
     answer_run u f S = rw (t, u) S
 
@@ -117,6 +117,6 @@ module _ (rabin : Bool) (text : List ℕ) where
       unfolding given
       answer_none w = rw (t, u, w)
 
-      pub answer_refused : starts_with refused_head text ≡ true → (f : Form) (b : Bool) → f ≡ no_run b → b ≡ is_some (refused_given (drop (length refused_head) text)) → FormSays (given rabin text) text f
+      pub answer_refused : starts_with refused_head text ≡ true → (f : code.Option Form) (b : Bool) → f ≡ no_run b → b ≡ is_some (refused_given (drop (length refused_head) text)) → FormSays (given rabin text) text f
       unfolding given
       answer_refused w f b e q = rw (e, q, t, u, w) (no_run_says text (refused_given (drop (length refused_head) text)) (refused_other (drop (length refused_head) text)))

@@ -1,7 +1,8 @@
 -- What an answer text says, read from its beginning. `Inverse.given_says` and `Inverse.says_given`, in proofs/, say that this reads exactly the texts of Form.antt.
 -- Assumes nothing.
-use Rattle.std.specs.Prelude.{◌≡◌, Bool, true, false, cond, List, [], ◌∷◌, ◌++◌, ℕ, ◌≤◌, eqb, length, take, drop}
+use Rattle.std.specs.Prelude.{◌≡◌, Bool, true, false, cond, List, [], ◌∷◌, ◌++◌, ℕ, ◌≤◌, eqb, length, take, drop, IfSome}
 use Rattle.std.proofs.Math.Option.{Option, some, none}
+use Rattle.std.specs.Prelude as code
 use Rattle.table.specs.declared.Verdict.TheVariants.{Run, Empty, Refused}
 use Rattle.table.specs.Table.{waiting}
 use Rattle.table.specs.Row.{part}
@@ -39,13 +40,14 @@ pub record Ordered (text : List ℕ) (a b : ℕ) : Type 0 where
   pub high : b ≤ length text
 
 -- what is found of a value at a place of the text
-abbrev pub cut_given : List ℕ → ℕ → Value → Option Cut
-cut_given text at r = cond r.found (some (record { value = part at r.end text; rest = drop r.next text })) none
+abbrev pub cut_given : List ℕ → ℕ → code.Option Value → Option Cut
+cut_given text at (code.Some r) = some (record { value = part at r.end text; rest = drop r.next text })
+cut_given text at code.None = none
 
-pub record ValueAt (text : List ℕ) (at : ℕ) (word : List ℕ) (r : Value) : Type 0 where
+pub record ValueAt (text : List ℕ) (at : ℕ) (word : List ℕ) (r : code.Option Value) : Type 0 where
   pub is : cut_given text at r ≡ value_then word (drop at text)
-  pub there : r.found ≡ true → Ordered text at r.end
-  pub next_there : r.found ≡ true → r.next ≤ length text
+  pub there : IfSome r (λ v. Ordered text at v.end)
+  pub next_there : IfSome r (λ v. v.next ≤ length text)
 
 -- ---- values
 
@@ -172,17 +174,15 @@ given rabin text =
 -- ---- what the reader gives
 
 -- what is found of a run's values at a place of the text
-abbrev pub values_given : List ℕ → ℕ → RunValues → Option RunText
-values_given text at r =
-    cond r.found
-    (some (record { pair = part at r.pair text; prefix = part r.prefix r.middle text; cycle = part r.cycle r.last text }))
-    none
+abbrev pub values_given : List ℕ → ℕ → code.Option RunValues → Option RunText
+values_given text at (code.Some r) = some (record { pair = part at r.pair text; prefix = part r.prefix r.middle text; cycle = part r.cycle r.last text })
+values_given text at code.None = none
 
-pub record ValuesAt (text : List ℕ) (at : ℕ) (r : RunValues) : Type 0 where
+pub record ValuesAt (text : List ℕ) (at : ℕ) (r : code.Option RunValues) : Type 0 where
   pub is : values_given text at r ≡ run_text (drop at text)
-  pub pair : r.found ≡ true → Ordered text at r.pair
-  pub prefix : r.found ≡ true → Ordered text r.prefix r.middle
-  pub cycle : r.found ≡ true → Ordered text r.cycle r.last
+  pub pair : IfSome r (λ v. Ordered text at v.pair)
+  pub prefix : IfSome r (λ v. Ordered text v.prefix v.middle)
+  pub cycle : IfSome r (λ v. Ordered text v.cycle v.last)
 
 -- a run, and where its lists stand, by what the text says
 pub record RunAt (said : Option Said) (text : List ℕ) (pair a b d e : ℕ) : Type 0 where
@@ -200,18 +200,18 @@ pub record OtherSaid (said : Option Said) : Type 0 where
   pub says : said ≡ some answer
   pub other : (pair : ℕ) (prefix cycle : List ℕ) → answer ≡ run pair prefix cycle → ⊥
 
-abbrev pub FormSays : Option Said → List ℕ → Form → Type 0
-FormSays said text form.Malformed = said ≡ none
-FormSays said text form.NoRun = OtherSaid said
-FormSays said text (form.Run pair a b d e) = RunAt said text pair a b d e
+abbrev pub FormSays : Option Said → List ℕ → code.Option Form → Type 0
+FormSays said text code.None = said ≡ none
+FormSays said text (code.Some form.NoRun) = OtherSaid said
+FormSays said text (code.Some (form.Run pair a b d e)) = RunAt said text pair a b d e
 
 -- an answer that is no run, if it is one of ours
-abbrev pub no_run : Bool → Form
-no_run true = form.NoRun
-no_run false = form.Malformed
+abbrev pub no_run : Bool → code.Option Form
+no_run true = code.Some form.NoRun
+no_run false = code.None
 
-abbrev pub RunForm : Bool → List ℕ → ℕ → Form → Type 0
+abbrev pub RunForm : Bool → List ℕ → ℕ → code.Option Form → Type 0
 RunForm rabin text at f = FormSays (run_given rabin (drop at text)) text f
 
-abbrev pub FormOf : Bool → List ℕ → Form → Type 0
+abbrev pub FormOf : Bool → List ℕ → code.Option Form → Type 0
 FormOf rabin text f = FormSays (given rabin text) text f

@@ -1,22 +1,22 @@
 -- The lines of an answer, one after another, and how long they are. Assumes nothing.
+use Rattle.table.specs.Refusal.{refused}
+use Rattle.std.specs.Prelude.{Ok}
 use mathlib.Core.Path.{◌≡◌, refl, sym, ap, ◌∙◌}
 use mathlib.Core.List.{List, [], ◌∷◌, ◌++◌, append-nil, append_assoc}
 use Prim.Native.Nat.{ℕ, suc, ◌+◌, ◌-◌, ◌*◌, ◌^◌, ◌≤◌, ◌<◌, min}
 use native.Mathlib.Nat.{add-zero}
 use native.Mathlib.Numerals.{add-one}
 use native.Mathlib.Omega.{arith}
-use lib.ListN.{length, get_or, take, drop, length-append, length-take, length-drop, drop_of_length-le, replicate}
+use lib.ListN.{length, get_or, take, drop, length-append, length-drop, drop_of_length-le, replicate}
 use lib.Seq.{sets, take-suc, take-length, take_all, drop-length}
-use borrow.Author.Tests.{lt-leb, le-leb, ne_eqb}
+use borrow.Author.Tests.{le-leb, ne_eqb}
 use Rattle.marks.proofs.Cases.{below, same}
 use Rattle.table.specs.Row.{part}
 use Rattle.table.specs.Table.{waiting}
 use Rattle.puts.specs.Put.{decimal, Put}
-use Rattle.puts.proofs.Puts.{put_both, decimal_few, as_it_was, then_zeros}
+use Rattle.puts.proofs.Puts.{put_both, decimal_few, then_zeros}
 use Rattle.job_text.specs.Text.{comma}
-use Rattle.job_text.specs.Value.{dash}
 use Rattle.answer_text.specs.Printed.{stop, step_text, further_text, list_text, bottom_text, Prints}
-use Rattle.answer_text.specs.declared.Printed.TheVariants as printed
 
 -- ---- an edge
 
@@ -50,10 +50,6 @@ pub further_more : {out mid out' : List ℕ} {at m r : ℕ} (cells : List ℕ) (
 further_more cells i l p q =
     rw (add-one i, take-suc cells i 0 l, further_append (take i cells) (get_or cells i 0)) (put_both p q)
 
-pub further_whole : {out out' : List ℕ} {at r : ℕ} (cells : List ℕ) (i : ℕ) → i ≡ length cells → Put out out' at (further_text (take i cells)) r
-    → Put out out' at (further_text cells) r
-further_whole cells i e p = rw (e, take-length cells) at p
-
 -- eleven bytes for each number: its comma and at most ten digits
 pub further_few : (xs : List ℕ) → ((i : ℕ) → get_or xs i 0 < 2 ^ 32) → length (further_text xs) ≤ 11 * length xs
 unfolding further_text
@@ -66,16 +62,9 @@ list_few [] h = omega arith
 list_few (x ∷ xs) h =
     omega (arith, length-append (step_text x) (further_text xs), step_few x (h 0), further_few xs (λ i. h (suc i)))
 
-pub list_none : (xs : List ℕ) → length xs ≡ 0 → list_text xs ≡ dash
-list_none [] e = refl
-list_none (x ∷ xs) e = absurd (omega arith)
-
-pub list_some : (xs : List ℕ) → (length xs ≡ 0 → ⊥) → list_text xs ≡ step_text (get_or xs 0 0) ++ further_text (part 1 (length xs) xs)
-list_some [] h = absurd (h refl)
+pub list_some : (xs : List ℕ) → 1 ≤ length xs → list_text xs ≡ step_text (get_or xs 0 0) ++ further_text (part 1 (length xs) xs)
+list_some [] h = absurd (omega arith)
 list_some (x ∷ xs) h = rw (take_all (suc (length xs) - 1) xs (omega arith))
-
-pub rest_length : (xs : List ℕ) → length (part 1 (length xs) xs) ≤ length xs - 1
-rest_length xs = omega (arith, length-take (length xs - 1) (drop 1 xs), length-drop 1 xs)
 
 -- ---- the cells of the room that are there
 
@@ -99,13 +88,8 @@ lists_there room p c knot rest e f =
 
 -- ---- the whole answer
 
-pub printed_short : (text out ys : List ℕ) (n : ℕ) → length ys ≡ 0 → n ≡ 0 + length text → length (ys ++ out) < n → Prints text out (ys ++ out) (printed.Refused 11 0)
-printed_short text out ys n e q l =
-    let s : length out < length text = omega (arith, length-append ys out) in
-    rw (as_it_was ys out e) (record { answer = rw (lt-leb (length text) (length out) s); buffer = rw (lt-leb (length text) (length out) s) })
-
 pub printed_whole : (text out ys out' out'' : List ℕ) (n : ℕ) → length ys ≡ 0 → n ≡ 0 + length text → n ≤ length (ys ++ out) → out' ≡ sets (ys ++ out) 0 text
-    → out'' ≡ take n out' ++ replicate (length out' - n) 0 → Prints text out out'' (printed.Text n)
+    → out'' ≡ take n out' ++ replicate (length out' - n) 0 → Prints text out out'' (Ok n)
 printed_whole text out ys out' out'' n e q l p z =
     let m : n ≡ length text = omega arith in
     let s : length text ≤ length out = omega (arith, length-append ys out) in

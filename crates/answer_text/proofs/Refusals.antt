@@ -1,4 +1,8 @@
 -- A printed text that fits, and how long a refusal's eight lines are at most. Assumes nothing.
+use Rattle.table.specs.Refusal.{refused}
+use Rattle.table.proofs.Door.{same_told}
+use Rattle.table.specs.declared.Refusal.{Refusal}
+use Rattle.std.specs.Prelude.{Result, Ok}
 use mathlib.Core.Path.{◌≡◌, sym, ◌∙◌}
 use mathlib.Core.Bool.{true}
 use mathlib.Core.List.{List, [], ◌++◌}
@@ -8,13 +12,10 @@ use lib.Dec.{leb}
 use lib.ListN.{length, replicate, length-append}
 use borrow.Author.Tests.{le-leb}
 use Rattle.table.specs.declared.Acceptance.TheVariants.{Buchi}
-use Rattle.table.specs.declared.Finding.TheVariants as Finding
 use Rattle.table.specs.declared.Verdict.TheVariants.{Refused}
 use Rattle.puts.specs.Put.{decimal}
 use Rattle.puts.proofs.Puts.{digits_few, decimal_few}
 use Rattle.job_text.specs.Value.{dash}
-use Rattle.answer_text.specs.declared.Printed.{Printed}
-use Rattle.answer_text.specs.declared.Printed.TheVariants as printed
 use Rattle.answer_text.specs.Printed.{shown, verdict=, code=, place=, column=, pair=, depth=, verdict_word, top_text, bottom_text, answer_text, refused_text, Prints}
 use Rattle.job_values.proofs.Cut.{shown_length}
 
@@ -57,28 +58,28 @@ refused_few number place column l h k =
     omega (arith, length-append (top_text (Refused number place) column 0 (Buchi 0)) (bottom_text [] []), top_most number place column l h k, bottom_most)
 
 -- one refusal and one column, one text
-pub same_text : {number place x p column k : ℕ} → Finding.Refused number place ≡ Finding.Refused x p → column ≡ k → refused_text number place column ≡ refused_text x p k
-same_text {number} {place} {x} {p} q e = let a : number ≡ x = cc in let b : place ≡ p = cc in rw (a, b, e)
+pub same_text : {number place x p column k : ℕ} → refused {A = Unit {0}} number place ≡ refused x p → column ≡ k → refused_text number place column ≡ refused_text x p k
+same_text {number} {place} {x} {p} q e = let same = same_told q in rw (same.0, same.1, e)
 
 -- ---- a text that fits
 
-module _ {text out out' : List ℕ} {r : Printed} (fits : length text ≤ length out) (P : Prints text out out' r) where
+module _ {text out out' : List ℕ} {r : Result ℕ Refusal} (fits : length text ≤ length out) (P : Prints text out out' r) where
   there : leb (length text) (length out) ≡ true
   there = le-leb (length text) (length out) fits
 
-  whole : r ≡ printed.Text (length text)
+  whole : r ≡ Ok (length text)
   whole = P.answer ∙ rw there
 
   -- it stands in the buffer, with zeros after it
-  pub printed_all : {size : ℕ} → r ≡ printed.Text size → (size ≡ length text) × (out' ≡ text ++ replicate (length out - size) 0)
+  pub printed_all : {size : ℕ} → r ≡ Ok size → (size ≡ length text) × (out' ≡ text ++ replicate (length out - size) 0)
   printed_all {size} e =
-      let q : printed.Text size ≡ printed.Text (length text) = sym e ∙ whole in
+      let q : Ok size ≡ Ok (length text) = sym e ∙ whole in
       let n : size ≡ length text = cc in
       (n, P.buffer ∙ rw (there, n))
 
   -- .. and is not refused
-  pub never_refused : {C : Type 0} {number place : ℕ} → r ≡ printed.Refused number place → C
+  pub never_refused : {C : Type 0} {number place : ℕ} → r ≡ refused number place → C
   never_refused {C} {number} {place} e =
-      let q : printed.Refused number place ≡ printed.Text (length text) = sym e ∙ whole in
+      let q : refused number place ≡ Ok (length text) = sym e ∙ whole in
       let z : ◌≡◌ {A = ℕ} 0 1 = cc in
       absurd (omega arith)

@@ -1,5 +1,7 @@
 -- The printed answer (docs/RULES.md, "The job text and the printed answer"). Assumes nothing.
-use Rattle.std.specs.Prelude.{◌≡◌, Bool, true, false, cond, List, [], ◌∷◌, ◌++◌, ℕ, ◌+◌, ◌-◌, ◌*◌, eqb, leb, length, take, drop, replicate}
+use Rattle.table.specs.Refusal.{refused}
+use Rattle.table.specs.declared.Refusal.{Refusal}
+use Rattle.std.specs.Prelude.{◌≡◌, Bool, true, false, cond, List, [], ◌∷◌, ◌++◌, ℕ, ◌+◌, ◌-◌, ◌*◌, eqb, leb, length, take, drop, replicate, Result, Ok}
 use Rattle.table.specs.declared.Acceptance.{Acceptance}
 use Rattle.table.specs.declared.Acceptance.TheVariants.{Buchi, Streett, Rabin}
 use Rattle.table.specs.declared.Verdict.{Verdict}
@@ -10,8 +12,6 @@ use Rattle.puts.specs.Put.{decimal}
 use Rattle.job_text.specs.Text.{comma}
 pub use Rattle.job_values.specs.Bytes.{shown}
 use Rattle.job_text.specs.Value.{dash}
-use Rattle.answer_text.specs.declared.Printed.{Printed}
-use Rattle.answer_text.specs.declared.Printed.TheVariants as printed
 
 -- ---- edges: "65535 is printed as `stop`", other numbers in decimal digits
 
@@ -106,12 +106,12 @@ most_printed = 5 * 8703 + 120
 -- ---- what printing does
 
 -- the text and zeros to the end, if there is room for it; else row 11, and the buffer as it was
-abbrev pub printed_of : List ℕ → ℕ → Printed
-printed_of text room = cond (leb (length text) room) (printed.Text (length text)) (printed.Refused 11 0)
+abbrev pub printed_of : List ℕ → ℕ → Result ℕ Refusal
+printed_of text room = cond (leb (length text) room) (Ok (length text)) (refused 11 0)
 
 abbrev pub buffer_of : List ℕ → List ℕ → List ℕ
 buffer_of text out = cond (leb (length text) (length out)) (text ++ replicate (length out - length text) 0) out
 
-pub record Prints (text out out' : List ℕ) (r : Printed) : Type 0 where
+pub record Prints (text out out' : List ℕ) (r : Result ℕ Refusal) : Type 0 where
   pub answer : r ≡ printed_of text (length out)
   pub buffer : out' ≡ buffer_of text out

@@ -9,17 +9,10 @@ ghost use Rattle.job_text.specs.Value.{dash};
 ghost use Rattle.answer_text.specs.Printed.{step_text, further_text, list_text, shown, verdict=, pair=, verdict_word, is_rabin, pair_text, head_text, top_text, bottom_text, answer_text, refused_text, Prints};
 
 use puts::{clear, put, put_held, put_number, put_word};
-use table::{Acceptance, Answer, Verdict};
+use table::{Acceptance, Answer, Refusal, Verdict};
 
 // The number of a waiting edge. crates/table/specs/Table.antt has the same number, as `waiting`.
 const WAITING: u32 = 65535;
-
-// What printing gives: the text's length, or row 11, the buffer being too short.
-#[derive(Clone, Copy)]
-pub enum Printed {
-    Text { length: usize },
-    Refused { number: u32, place: u32 },
-}
 
 // An edge's number, or `stop` for a waiting edge.
 fn put_step(out: &mut [u8], at: usize, edge: u32) -> usize
@@ -38,12 +31,9 @@ fn put_more(out: &mut [u8], at: usize, cells: &[u32]) -> usize
     ensures { Put out.old out.new at (further_text cells.now) result }
 {
     let mut next = at;
-    let mut i = 0;
-    while i < cells.len() {
-        let cell = cells[i];
+    for cell in cells {
         let digits = put(out, next, b',');
-        next = put_step(out, digits, cell);
-        i += 1;
+        next = put_step(out, digits, *cell);
     }
     next
 }
@@ -53,11 +43,13 @@ fn put_list(out: &mut [u8], at: usize, cells: &[u32]) -> usize
     requires { at + 11 * length cells.now < 2 ^ 57 }
     ensures { Put out.old out.new at (list_text cells.now) result }
 {
-    if cells.len() == 0 {
-        return put(out, at, b'-');
+    match cells {
+        [] => put(out, at, b'-'),
+        [first, rest @ ..] => {
+            let next = put_step(out, at, *first);
+            put_more(out, next, rest)
+        }
     }
-    let next = put_step(out, at, cells[0]);
-    put_more(out, next, &cells[1..])
 }
 
 // A line with a list.
@@ -75,16 +67,9 @@ fn put_verdict(out: &mut [u8], verdict: Verdict) -> usize
     ensures { PutFew out.old out.new 0 (shown verdict= (verdict_word verdict)) result 16 }
 {
     match verdict {
-        Verdict::Run {
-            prefix: _,
-            cycle: _,
-            pair: _,
-        } => put_word(out, 0, b"verdict=run\n"),
+        Verdict::Run { .. } => put_word(out, 0, b"verdict=run\n"),
         Verdict::Empty => put_word(out, 0, b"verdict=empty\n"),
-        Verdict::Refused {
-            number: _,
-            place: _,
-        } => put_word(out, 0, b"verdict=refused\n"),
+        Verdict::Refused { .. } => put_word(out, 0, b"verdict=refused\n"),
     }
 }
 
@@ -92,22 +77,7 @@ fn put_verdict(out: &mut [u8], verdict: Verdict) -> usize
 pub fn is_rabin(condition: Acceptance) -> bool
     ensures { result ≡ is_rabin condition }
 {
-    match condition {
-        Acceptance::Buchi(_) => false,
-        Acceptance::Streett(_) => false,
-        Acceptance::Rabin(_) => true,
-    }
-}
-
-// The pair's line of a run.
-fn put_run_pair(out: &mut [u8], at: usize, pair: u32, condition: Acceptance) -> usize
-    requires { at < 2 ^ 50 }
-    ensures { PutFew out.old out.new at (shown pair= (cond (is_rabin condition) (decimal pair) dash)) result 16 }
-{
-    if is_rabin(condition) {
-        return put_held(out, at, b"pair=", pair, b'\n');
-    }
-    put_word(out, at, b"pair=-\n")
+    matches!(condition, Acceptance::Rabin(_))
 }
 
 // The pair's line: a number for a Rabin run, else `-`.
@@ -116,85 +86,51 @@ fn put_pair(out: &mut [u8], at: usize, verdict: Verdict, condition: Acceptance) 
     ensures { PutFew out.old out.new at (shown pair= (pair_text verdict condition)) result 16 }
 {
     match verdict {
-        Verdict::Empty => put_word(out, at, b"pair=-\n"),
-        Verdict::Refused {
-            number: _,
-            place: _,
-        } => put_word(out, at, b"pair=-\n"),
-        Verdict::Run {
-            prefix: _,
-            cycle: _,
-            pair,
-        } => put_run_pair(out, at, pair, condition),
+        Verdict::Run { pair, .. } if is_rabin(condition) => put_held(
+            out, at, b"pair=", pair, b'\n',
+        ),
+        _ => put_word(out, at, b"pair=-\n"),
     }
 }
 
+// The number of a refusal, else 0.
 fn number_of(verdict: Verdict) -> u32
     ensures { result ≡ number_of verdict }
 {
     match verdict {
-        Verdict::Run {
-            prefix: _,
-            cycle: _,
-            pair: _,
-        } => 0,
-        Verdict::Empty => 0,
-        Verdict::Refused { number, place: _ } => number,
+        Verdict::Refused { number, .. } => number,
+        _ => 0,
     }
 }
 
+// Its place, else 0.
 fn place_of(verdict: Verdict) -> u32
     ensures { result ≡ place_of verdict }
 {
     match verdict {
-        Verdict::Run {
-            prefix: _,
-            cycle: _,
-            pair: _,
-        } => 0,
-        Verdict::Empty => 0,
-        Verdict::Refused { number: _, place } => place,
+        Verdict::Refused { place, .. } => place,
+        _ => 0,
     }
 }
 
+// The length of a run's prefix, else 0.
 fn prefix_of(verdict: Verdict) -> u32
     ensures { result ≡ prefix_of verdict }
 {
     match verdict {
-        Verdict::Run {
-            prefix,
-            cycle: _,
-            pair: _,
-        } => prefix,
-        Verdict::Empty => 0,
-        Verdict::Refused {
-            number: _,
-            place: _,
-        } => 0,
+        Verdict::Run { prefix, .. } => prefix,
+        _ => 0,
     }
 }
 
+// The length of its cycle, else 0.
 fn cycle_of(verdict: Verdict) -> u32
     ensures { result ≡ cycle_of verdict }
 {
     match verdict {
-        Verdict::Run {
-            prefix: _,
-            cycle,
-            pair: _,
-        } => cycle,
-        Verdict::Empty => 0,
-        Verdict::Refused {
-            number: _,
-            place: _,
-        } => 0,
+        Verdict::Run { cycle, .. } => cycle,
+        _ => 0,
     }
-}
-
-fn least(a: usize, b: usize) -> usize
-    ensures { result ≡ min a b }
-{
-    if a < b { a } else { b }
 }
 
 // The verdict's, the code's, the place's and the column's lines.
@@ -242,8 +178,8 @@ fn put_answer(
 ) -> usize
     ensures { Put out.old out.new 0 (answer_text verdict column depth condition room.now) result }
 {
-    let knot = least(prefix_of(verdict) as usize, room.len());
-    let end = knot + least(cycle_of(verdict) as usize, room.len() - knot);
+    let knot = room.len().min(prefix_of(verdict) as usize);
+    let end = knot + (room.len() - knot).min(cycle_of(verdict) as usize);
     let lists = put_top(out, verdict, column, depth, condition);
     put_bottom(out, lists, &room[0..knot], &room[knot..end])
 }
@@ -255,38 +191,42 @@ fn print_told(
     condition: Acceptance,
     room: &[u32],
     out: &mut [u8],
-) -> Printed
+) -> Result<usize, Refusal>
     ensures { Prints (answer_text answer.verdict column answer.depth condition room.now) out.old out.new result }
 {
     let verdict = answer.verdict;
     let depth = answer.depth;
     let length = put_answer(&mut out[0..0], verdict, column, depth, condition, room);
     if out.len() < length {
-        return Printed::Refused {
+        return Err(Refusal {
             number: 11,
             place: 0,
-        };
+        });
     }
     put_answer(out, verdict, column, depth, condition, room);
     clear(out, length);
-    Printed::Text { length }
+    Ok(length)
 }
 
 // The printed answer of the judge, with column 0, and zeros after it, if the buffer is long enough for it; else row 11, and the buffer as it was.
-pub fn print(answer: Answer, condition: Acceptance, room: &[u32], out: &mut [u8]) -> Printed
+pub fn print(
+    answer: Answer,
+    condition: Acceptance,
+    room: &[u32],
+    out: &mut [u8],
+) -> Result<usize, Refusal>
     ensures { Prints (answer_text answer.verdict 0 answer.depth condition room.now) out.old out.new result }
 {
     print_told(answer, 0, condition, room, out)
 }
 
 // The eight lines of a refusal and zeros after them, in the same way.
-pub fn print_refused(number: u32, place: u32, column: u32, out: &mut [u8]) -> Printed
+pub fn print_refused(number: u32, place: u32, column: u32, out: &mut [u8]) -> Result<usize, Refusal>
     ensures { Prints (refused_text number place column) out.old out.new result }
 {
-    let room = [0u32; 0];
     let refused = Answer {
         verdict: Verdict::Refused { number, place },
         depth: 0,
     };
-    print_told(refused, column, Acceptance::Buchi(0), &room, out)
+    print_told(refused, column, Acceptance::Buchi(0), &[], out)
 }

@@ -5,26 +5,29 @@
 
 ghost use Rattle.std.specs.Prelude.{◌≡◌};
 ghost use Rattle.check_text.specs.Replied.{CheckReplied};
-ghost use Rattle.text_input.specs.Served.{Served, Wrote};
+ghost use Rattle.text_input.specs.Served.{Served};
 
 use check_text::{MOST_CHECKED, check_text};
 use std::io::{Read, Write};
 use std::process::ExitCode;
-use text_input::{Input, fail, read_input};
+use text_input::Program;
 
 // One byte more than the longest job (12,288) and the longest answer text (65,536) have together: with so many, whatever follows changes nothing
 // (crates/check_text/proofs/Settled.antt).
 const MOST_READ: usize = 77825;
 
-// Checks an input and writes the result.
-fn answer<W: Write>(rt: &impl Eprint, output: &mut W, text: &[u8]) -> ExitCode
-    ensures { result ≡ ExitCode.SUCCESS → Wrote (CheckReplied text.now) (W.contents output.old) (W.contents output.new) }
-{
-    let mut out = [0u8; MOST_CHECKED];
-    let size = check_text(text, &mut out);
-    match output.write_all(&out[0..size]) {
-        Ok(()) => ExitCode::SUCCESS,
-        Err(reason) => fail(rt, "check_answer: the result could not be written", reason),
+// A job text with an answer behind it, checked.
+struct CheckAnswer;
+
+impl Program<MOST_CHECKED> for CheckAnswer {
+    ghost Reply = { CheckReplied };
+
+    const UNREAD: &'static str = "check_answer: the input could not be read";
+
+    const UNWRITTEN: &'static str = "check_answer: the result could not be written";
+
+    fn reply(text: &[u8], out: &mut [u8; MOST_CHECKED]) -> usize {
+        check_text(text, out)
     }
 }
 
@@ -33,11 +36,7 @@ fn serve<R: Read, W: Write>(rt: &impl Eprint, input: &mut R, output: &mut W) -> 
     ensures { result ≡ ExitCode.SUCCESS → Served MOST_READ CheckReplied (R.remaining input.old) (R.remaining input.new)
         (W.contents output.old) (W.contents output.new) }
 {
-    let mut text = [0u8; MOST_READ];
-    match read_input(input, &mut text) {
-        Input::Bytes { count } => answer(rt, output, &text[0..count]),
-        Input::Failed { reason } => fail(rt, "check_answer: the input could not be read", reason),
-    }
+    text_input::serve::<CheckAnswer, MOST_READ, MOST_CHECKED, _, R, W>(rt, input, output)
 }
 
 fn main(rt: HostRuntime) -> ExitCode {

@@ -1,11 +1,11 @@
 -- An answer text that is too long is told as 50, where the job is in order: no answer of ours prints as nothing. Assumes nothing.
+use Rattle.std.specs.Prelude.{Ok}
 use mathlib.Core.Path.{◌≡◌, ap, subst}
 use mathlib.Core.List.{List, []}
 use Prim.Native.Nat.{ℕ, ◌<◌}
 use native.Mathlib.Omega.{arith}
 use lib.ListN.{length, take, drop, length-append}
 use borrow.Author.Tests.{lt-ltb}
-use Rattle.table.specs.declared.Finding.TheVariants.{Sound}
 use Rattle.table.specs.declared.Acceptance.{Acceptance}
 use Rattle.table.specs.Table.{Table}
 use Rattle.table.specs.Verdict.{prefix_of, cycle_of}
@@ -39,13 +39,13 @@ told_50 t c needs r (malformed m e) = e
 told_50 t c needs r (no_run n e) = absurd (says_some c n.said n.says)
 told_50 t c needs r (run_judged R) = absurd (says_some c (run R.pair R.prefix R.cycle) R.says)
 
-checks_50 : (text : List ℕ) (j : Job) (r : Checked) → read_job text ≡ job j → first_cause (job j) ≡ Sound → Checks text [] r → r ≡ Refused 50 0 0
+checks_50 : (text : List ℕ) (j : Job) (r : Checked) → read_job text ≡ job j → first_cause (job j) ≡ Ok tt → Checks text [] r → r ≡ Refused 50 0 0
 checks_50 text j r o s C =
     let B : ByCause (first_cause (job j)) (job_table j) j.condition j.needs [] r = subst (λ (x : Outcome). ByJob text x [] r) o C in
     told_50 (job_table j) j.condition j.needs r (subst (λ f. ByCause f (job_table j) j.condition j.needs [] r) s B)
 
 -- above 65,536 bytes: 50
-pub too_long : {input out : List ℕ} {size : ℕ} (R : CheckReplied input out size) (j : Job) → read_job (job_part input) ≡ job j → first_cause (job j) ≡ Sound
+pub too_long : {input out : List ℕ} {size : ℕ} (R : CheckReplied input out size) (j : Job) → read_job (job_part input) ≡ job j → first_cause (job j) ≡ Ok tt
     → most_answer < length (answer_part input) → R.result ≡ Refused 50 0 0
 too_long {input} R j o s l =
     let none : heard (answer_part input) ≡ [] = rw (lt-ltb most_answer (length (answer_part input)) l) in

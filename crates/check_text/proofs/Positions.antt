@@ -1,4 +1,6 @@
 -- A fault's position is no larger than the answer text is long: every edge but the first of a list takes a comma. Assumes nothing.
+use Rattle.table.specs.declared.Refusal.{Refusal}
+use Rattle.std.specs.Prelude.{Result, Ok, Err}
 use mathlib.Core.Path.{◌≡◌, refl, ap}
 use mathlib.Core.Logic.{◌⊎◌, inl, inr}
 use mathlib.Core.List.{List, [], ◌∷◌, ◌++◌}
@@ -7,8 +9,6 @@ use native.Mathlib.Omega.{arith}
 use lib.ListN.{length, take, drop, length-append}
 use lib.Seq.{take_at, drop_at, take-length}
 use Rattle.table.specs.declared.Acceptance.{Acceptance}
-use Rattle.table.specs.declared.Finding.{Finding}
-use Rattle.table.specs.declared.Finding.TheVariants as finding
 use Rattle.table.specs.Table.{Table}
 use Rattle.job_text.specs.Text.{comma}
 use Rattle.job_text.specs.Job.{Outcome, job, fault as faulty, read_job}
@@ -83,9 +83,9 @@ module _ (answer : List ℕ) (few : length answer ≤ most_answer) where
   told_slight t c needs r (no_run n e) = refused_slight r e
   told_slight t c needs r (run_judged R) = judged_slight t c needs R.pair R.prefix R.cycle r R.says R.judged
 
-  cause_slight : (f : Finding) (t : Table) (c : Acceptance) (needs : List ℕ) (r : Checked) → ByCause f t c needs answer r → Slight r
-  cause_slight (finding.Refused number place) t c needs r e = refused_slight r e
-  cause_slight finding.Sound t c needs r T = told_slight t c needs r T
+  cause_slight : (f : Result Unit Refusal) (t : Table) (c : Acceptance) (needs : List ℕ) (r : Checked) → ByCause f t c needs answer r → Slight r
+  cause_slight (Err cause) t c needs r e = refused_slight r e
+  cause_slight (Ok done) t c needs r T = told_slight t c needs r T
 
   job_slight : (text : List ℕ) (o : Outcome) (r : Checked) → ByJob text o answer r → Slight r
   job_slight text (faulty number place) r T = refused_slight r T.told

@@ -8,7 +8,7 @@ ghost use Rattle.check_text.specs.Replied.{top_text, fault_lines, checked_text, 
 ghost use Rattle.check_text.specs.inner.{JobEnds, HeardTo, Slight};
 
 use answer_check::{Checked, Fault, check_answer};
-use job_values::part::{alike, find};
+use job_values::part::find;
 use puts::{clear, put_held, put_word};
 
 // The longest answer text that is checked.
@@ -20,6 +20,7 @@ pub const MOST_CHECKED: usize = 128;
 const NEWLINE: u8 = 10;
 
 // How many bytes of the input are the job's: to the newline of the first line that is exactly `end=job`.
+#[tactic(auto, using(job_values::proofs::Cut::same_pointwise, crate::proofs::Splits::no_line_yet, crate::proofs::Splits::no_more_lines, crate::proofs::Splits::broken_line, crate::proofs::Splits::end_here, crate::proofs::Splits::other_line))]
 fn job_size(input: &[u8]) -> usize
     ensures { JobEnds input.now result }
 {
@@ -29,7 +30,7 @@ fn job_size(input: &[u8]) -> usize
         if input.len() <= end {
             return input.len();
         }
-        if alike(&input[at..end], b"end=job") {
+        if &input[at..end] == b"end=job".as_slice() {
             return end + 1;
         }
         at = end + 1;
@@ -47,15 +48,17 @@ fn put_refused(out: &mut [u8], number: u32, place: u32, column: u32) -> usize
 }
 
 // The first four lines.
+#[tactic(auto, unfolding(crate::specs::Replied::top_text, puts::specs::Put::decimal_in))]
 fn put_top(out: &mut [u8], checked: Checked) -> usize
     ensures { PutFew out.old out.new 0 (top_text checked) result 70 }
 {
     match checked {
         Checked::Accepted => put_word(out, 0, b"verdict=accepted\ncode=0\nplace=0\ncolumn=0\n"),
-        Checked::Rejected {
-            fault: _,
-            position: _,
-        } => put_word(out, 0, b"verdict=rejected\ncode=0\nplace=0\ncolumn=0\n"),
+        Checked::Rejected { .. } => put_word(
+            out,
+            0,
+            b"verdict=rejected\ncode=0\nplace=0\ncolumn=0\n",
+        ),
         Checked::Refused {
             number,
             place,
@@ -65,6 +68,7 @@ fn put_top(out: &mut [u8], checked: Checked) -> usize
 }
 
 // The lines of a fault.
+#[tactic(auto, unfolding(crate::specs::Replied::fault_lines))]
 fn put_fault(out: &mut [u8], at: usize, fault: Fault, position: u32) -> usize
     requires { at < 2 ^ 20 }
     ensures { PutFew out.old out.new at (fault_lines (Checked.Rejected fault position)) result 40 }
@@ -78,19 +82,15 @@ fn put_fault(out: &mut [u8], at: usize, fault: Fault, position: u32) -> usize
 }
 
 // The last two lines.
+#[tactic(auto, unfolding(crate::specs::Replied::fault_lines))]
 fn put_bottom(out: &mut [u8], at: usize, checked: Checked) -> usize
     requires at_bound { at < 2 ^ 20 }
     requires slight { Slight checked }
     ensures { PutFew out.old out.new at (fault_lines checked) result 40 }
 {
     match checked {
-        Checked::Accepted => put_word(out, at, b"fault=-\nposition=-\n"),
-        Checked::Refused {
-            number: _,
-            place: _,
-            column: _,
-        } => put_word(out, at, b"fault=-\nposition=-\n"),
         Checked::Rejected { fault, position } => put_fault(out, at, fault, position as u32),
+        _ => put_word(out, at, b"fault=-\nposition=-\n"),
     }
 }
 
@@ -108,10 +108,7 @@ fn heard_to(size: usize, all: usize) -> usize
     requires { size ≤ all }
     ensures { HeardTo size all result }
 {
-    if MOST_ANSWER < all - size {
-        return size;
-    }
-    all
+    if MOST_ANSWER < all - size { size } else { all }
 }
 
 // The printed result for an input and zeros after it, in `out`; gives its length. For every input.

@@ -74,12 +74,6 @@ lands k x j f g =
     (λ l. f l (rw (lt-ltb (reached k x j) k l)) (rw (lt-ltb (reached k x j) k l)))
     (λ l. g l (rw (le-ltb (reached k x j) k l)) (rw (le-ltb (reached k x j) k l)))
 
-pub landed_below : (k x j r : ℕ) → r ≡ reached k x j → r < k → (r ≡ landing k x j) × (0 ≡ bearing k x j)
-landed_below k x j r e l = lands k x j (λ m f b. omega arith) (λ m f b. absurd (omega arith))
-
-pub landed_top : (k x j r : ℕ) → r ≡ reached k x j → k ≤ r → (0 ≡ landing k x j) × (1 ≡ bearing k x j)
-landed_top k x j r e l = lands k x j (λ m f b. absurd (omega arith)) (λ m f b. omega arith)
-
 pub landing_below : (k x j : ℕ) → landing k x j < levels k
 landing_below k x j = lands k x j (λ l e b. omega arith) (λ l e b. omega arith)
 

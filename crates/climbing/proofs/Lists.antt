@@ -5,8 +5,8 @@ use Prim.Native.Nat.{ℕ, zero, suc, ◌+◌, ◌-◌, ◌*◌, ◌≤◌, ◌<�
 use native.Mathlib.Nat.{add-zero, zero-add}
 use native.Mathlib.Numerals.{add-one}
 use native.Mathlib.Omega.{arith}
-use lib.ListN.{length, get_or, set, replicate, length-append, get_or-append}
-use lib.Seq.{sets, sets-eq, drop-length, get_or-append-add}
+use lib.ListN.{length, get_or, set, length-append, get_or-append}
+use lib.Seq.{sets, get_or-append-add}
 use Rattle.marks.proofs.Cases.{same}
 use Rattle.climbing.specs.Place.{cells, each}
 
@@ -32,10 +32,6 @@ cells_same f g a b (suc n) h =
     let first : f a ≡ g b = ap f (sym (add-zero a)) ∙ h 0 (omega arith) ∙ ap g (add-zero b) in
     let rest : cells f (suc a) n ≡ cells g (suc b) n = cells_same f g (suc a) (suc b) n (λ i l. ap f (omega arith) ∙ h (suc i) (omega arith) ∙ ap g (omega arith)) in
     rw (first, rest)
-
-pub cells_zero : (a n : ℕ) → cells (λ e. 0) a n ≡ replicate n 0
-cells_zero a zero = refl
-cells_zero a (suc n) = ap {B = List ℕ} (λ xs. 0 ∷ xs) (cells_zero (suc a) n)
 
 -- ---- lists one behind the other
 
@@ -90,12 +86,6 @@ sets_append l at (x ∷ xs) ys =
 pub sets_more : (l : List ℕ) (at : ℕ) (f : ℕ → ℕ) (n : ℕ) → set (sets l at (cells f 0 n)) (at + n) (f n) ≡ sets l at (cells f 0 (n + 1))
 sets_more l at f n =
     rw (add-one n, cells_more f 0 n, zero-add n, sets_append l at (cells f 0 n) (f n ∷ []), length_cells f 0 n)
-
--- a list that is written over as a whole
-pub sets_whole : (l xs : List ℕ) → length xs ≡ length l → sets l 0 xs ≡ xs
-sets_whole l xs e =
-    let all : 0 + length xs ≡ length l = omega arith in
-    sets-eq xs l 0 (omega arith) ∙ rw (all, drop-length l) (append-nil xs)
 
 pub no_cells : (xs : List ℕ) → length xs ≡ 0 → xs ≡ []
 no_cells [] e = refl

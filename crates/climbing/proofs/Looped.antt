@@ -191,10 +191,6 @@ pub source_start : (t : Table) (k : ℕ) → (source t k).start ≡ t.start
 source_start t zero = refl
 source_start t (suc k) = refl
 
-pub source_kept : (t : Table) (k : ℕ) → (k ≡ 0 → ⊥) → (source t k).edges ≡ t.edges
-source_kept t zero some = absurd (some refl)
-source_kept t (suc k) some = refl
-
 -- the states and where the edges leave tell how many edges it has
 pub source_edges : (n start start' : ℕ) (from to marks to' marks' : List ℕ) (k : ℕ)
     → (source (lent n start from to marks) k).edges ≡ (source (lent n start' from to' marks') k).edges

@@ -18,10 +18,7 @@ pub struct Shape {
 pub fn level_count(k: u32) -> u32
     ensures { result ≡ levels k }
 {
-    if k == 0 {
-        return 1;
-    }
-    k
+    k.max(1)
 }
 
 // The level that an edge with these marks reaches from this level, k at most: it climbs as many levels as it bears marks in a row.
@@ -32,11 +29,8 @@ fn climb(marks: Marks, level: u32, k: u32) -> u32
     if k <= level {
         return level;
     }
-    let climbed = u32::trailing_zeros(!(marks >> level));
-    if k - level <= climbed {
-        return k;
-    }
-    level + climbed
+    let climbed = (marks >> level).trailing_ones();
+    level + climbed.min(k - level)
 }
 
 // Where an edge lands: the level at which the translated edge arrives, and the marks that it bears.
@@ -46,6 +40,7 @@ pub struct Landing {
     pub marks: Marks,
 }
 
+#[tactic(auto, unfolding(crate::specs::Climb::landing, crate::specs::Climb::bearing))]
 pub fn land(marks: Marks, level: u32, k: u32) -> Landing
     requires { k ≤ width }
     ensures { (result.level ≡ landing k marks level) × (result.marks ≡ bearing k marks level) }

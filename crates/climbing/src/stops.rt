@@ -10,33 +10,27 @@ use table::row::run;
 pub fn loops(k: u32, row: usize) -> usize
     ensures { result ≡ 1 - (k + row) }
 {
-    if k != 0 {
-        return 0;
-    }
-    if row != 0 {
-        return 0;
-    }
-    1
+    usize::from(k == 0 && row == 0)
 }
 
 // How many of the n states are stop states.
+#[tactic(auto, using(crate::proofs::Runs::run_next, crate::proofs::Runs::stops_next, crate::proofs::StopStates::stops_most))]
 fn stop_count(n: u32, from: &[u32]) -> usize
     requires { Rising from.now }
     ensures { result ≡ stops from.now n }
 {
-    let mut state = 0;
     let mut first = 0;
     let mut count = 0;
-    while state < n {
+    for state in 0..n {
         let row = run(&from[first..], state);
         count += loops(0, row);
         first += row;
-        state += 1;
     }
     count
 }
 
 // How many edges the table has that is lifted: with k = 0 each stop state has a loop.
+#[tactic(auto, using(crate::proofs::StopStates::stops_most))]
 pub fn source_count(n: u32, from: &[u32], k: u32) -> usize
     requires { Rising from.now }
     ensures { result ≡ (source (lent n 0 from.now [] []) k).edges }

@@ -1,9 +1,7 @@
 -- What the answers say, in the words of Digit.antt. Assumes nothing.
-use Rattle.std.proofs.Math.Option.{Option, some, none}
-use Rattle.std.specs.Prelude.{ℕ}
-use Rattle.digits.specs.declared.Digit.{Digit}
-use Rattle.digits.specs.declared.Digit.TheVariants.{Value, Wrong}
+use Rattle.std.specs.Prelude.{ℕ, Option, Some, None}
+use Rattle.std.proofs.Math.Option as math
 
-abbrev pub digit_given : Digit → Option ℕ
-digit_given (Value d) = some d
-digit_given Wrong = none
+abbrev pub digit_given : Option ℕ → math.Option ℕ
+digit_given (Some d) = math.some d
+digit_given None = math.none

@@ -5,33 +5,24 @@ ghost use Rattle.std.specs.Prelude.{◌≡◌};
 ghost use Rattle.digits.specs.Digit.{digit, hex_digit};
 ghost use Rattle.digits.specs.Given.{digit_given};
 
-// What a digit is worth, or that the byte is none.
-#[derive(Clone, Copy)]
-pub enum Digit {
-    Value(u32),
-    Wrong,
-}
-
-// A decimal digit.
-pub fn digit_value(byte: u8) -> Digit
+// What a decimal digit is worth.
+#[tactic(auto, using(std::proofs::lemmas::Bool::Decides::nat_tests), unfolding(crate::specs::Digit::digit))]
+pub fn digit_value(byte: u8) -> Option<u32>
     ensures { digit_given result ≡ digit byte }
 {
-    if byte < b'0' {
-        return Digit::Wrong;
+    match byte {
+        b'0'..=b'9' => Some(u32::from(byte - b'0')),
+        _ => None,
     }
-    if b'9' < byte {
-        return Digit::Wrong;
-    }
-    Digit::Value((byte - b'0') as u32)
 }
 
-// A lower-case hex digit.
-pub fn hex_value(byte: u8) -> Digit
+// What a lower-case hex digit is worth.
+#[tactic(auto, using(std::proofs::lemmas::Bool::Decides::nat_tests), unfolding(crate::specs::Digit::digit, crate::specs::Digit::hex_digit))]
+pub fn hex_value(byte: u8) -> Option<u32>
     ensures { digit_given result ≡ hex_digit byte }
 {
     match byte {
-        b'0'..=b'9' => Digit::Value((byte - b'0') as u32),
-        b'a'..=b'f' => Digit::Value((byte - b'a' + 10) as u32),
-        _ => Digit::Wrong,
+        b'a'..=b'f' => Some(u32::from(byte - b'a' + 10)),
+        _ => digit_value(byte),
     }
 }

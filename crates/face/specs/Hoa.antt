@@ -1,13 +1,12 @@
 -- The numbers by which the C face tells what the reader of the Hanoi format and the writers give (docs/RULES.md, "The Hanoi format" and "The job text and the
 -- printed answer"). Assumes nothing.
-use Rattle.std.specs.Prelude.{ℕ}
+use Rattle.table.specs.declared.Refusal.{Refusal}
+use Rattle.std.specs.Prelude.{ℕ, Result, Ok, Err}
 use Rattle.table.specs.declared.Acceptance.{Acceptance}
 use Rattle.table.specs.declared.Acceptance.TheVariants.{Buchi, Streett, Rabin}
 use Rattle.hoa.specs.declared.Hoa.{Hoa}
 use Rattle.hoa.specs.declared.HoaFinding.{HoaFinding}
 use Rattle.hoa.specs.declared.HoaFinding.TheVariants.{Read, Refused}
-use Rattle.writing.specs.declared.Written.{Written}
-use Rattle.writing.specs.declared.Written.TheVariants as written
 use Rattle.face.specs.declared.hanoi.HoaNumbers.{HoaNumbers}
 use Rattle.face.specs.declared.hanoi.TextNumbers.{TextNumbers}
 
@@ -51,6 +50,6 @@ hoa_numbers h =
 -- ---- the writers
 
 -- its answer in plain numbers
-abbrev pub text_numbers : Written → TextNumbers
-text_numbers (written.Text length) = record { number = 0; place = 0; length = length }
-text_numbers (written.Refused number place) = record { number = number; place = place; length = 0 }
+abbrev pub text_numbers : Result ℕ Refusal → TextNumbers
+text_numbers (Ok length) = record { number = 0; place = 0; length = length }
+text_numbers (Err cause) = record { number = cause.number; place = cause.place; length = 0 }

@@ -1,4 +1,6 @@
 -- The numbers by which the C face tells what the judge, or the translation, answers (docs/RULES.md, "What comes back"). Assumes nothing.
+use Rattle.std.specs.Prelude.{Result}
+use Rattle.table.specs.declared.Refusal.{Refusal}
 use Rattle.table.specs.declared.Answer.{Answer}
 use Rattle.table.specs.Verdict.{kind_of, number_of, place_of, pair_of, prefix_of, cycle_of}
 use Rattle.one_mark.specs.declared.Translation.{Translation}
@@ -20,6 +22,6 @@ answer_numbers a =
     }
 
 -- the answer of the translation in plain numbers
-abbrev pub table_numbers : Translation → TableNumbers
+abbrev pub table_numbers : Result Translation Refusal → TableNumbers
 table_numbers a =
     record { number = table_number_of a; place = table_place_of a; states = states_of a; edges = edges_of a; start = start_of a }

@@ -4,8 +4,7 @@ ghost use Rattle.face.specs.Hoa.{acceptance_kind, acceptance_count, finding_numb
 
 use crate::ANSWERED;
 use hoa::{Hoa, HoaFinding};
-use table::Acceptance;
-use writing::Written;
+use table::{Acceptance, Refusal};
 
 const BUCHI: u32 = 0;
 
@@ -30,7 +29,7 @@ pub struct HoaNumbers {
 
 // `mukhadero_text`: the length is 0 if it was refused.
 #[repr(C)]
-#[derive(Clone, Copy)]
+#[derive(Clone, Copy, Default)]
 pub struct TextNumbers {
     pub number: u32,
     pub place: u32,
@@ -53,9 +52,7 @@ fn acceptance_count(condition: Acceptance) -> u32
     ensures { result ≡ acceptance_count condition }
 {
     match condition {
-        Acceptance::Buchi(k) => k,
-        Acceptance::Streett(p) => p,
-        Acceptance::Rabin(p) => p,
+        Acceptance::Buchi(count) | Acceptance::Streett(count) | Acceptance::Rabin(count) => count,
     }
 }
 
@@ -65,7 +62,7 @@ fn finding_number(finding: HoaFinding) -> u32
 {
     match finding {
         HoaFinding::Read => ANSWERED,
-        HoaFinding::Refused { number, place: _ } => number,
+        HoaFinding::Refused { number, .. } => number,
     }
 }
 
@@ -75,7 +72,7 @@ fn finding_place(finding: HoaFinding) -> usize
 {
     match finding {
         HoaFinding::Read => 0,
-        HoaFinding::Refused { number: _, place } => place,
+        HoaFinding::Refused { place, .. } => place,
     }
 }
 
@@ -83,36 +80,35 @@ fn finding_place(finding: HoaFinding) -> usize
 pub fn hoa_numbers(hoa: Hoa) -> HoaNumbers
     ensures { result ≡ hoa_numbers hoa }
 {
-    let finding = hoa.finding;
-    let condition = hoa.condition;
+    // an array goes through a variable: a field's value can't be stored straight
     let needs = hoa.needs;
-    let place = finding_place(finding);
     HoaNumbers {
-        number: finding_number(finding),
-        kind: acceptance_kind(condition),
-        place: place as u64,
+        number: finding_number(hoa.finding),
+        kind: acceptance_kind(hoa.condition),
+        place: finding_place(hoa.finding) as u64,
         states: hoa.states,
         start: hoa.start,
         edges: hoa.edges,
-        count: acceptance_count(condition),
+        count: acceptance_count(hoa.condition),
         needs,
     }
 }
 
 // What writing gives, in plain numbers.
-pub fn text_numbers(written: Written) -> TextNumbers
+pub fn text_numbers(written: Result<usize, Refusal>) -> TextNumbers
     ensures { result ≡ text_numbers written }
 {
+    let none = TextNumbers::default();
     match written {
-        Written::Text { length } => TextNumbers {
+        Ok(length) => TextNumbers {
             number: ANSWERED,
-            place: 0,
             length: length as u64,
+            ..none
         },
-        Written::Refused { number, place } => TextNumbers {
-            number: number,
-            place: place,
-            length: 0,
+        Err(cause) => TextNumbers {
+            number: cause.number,
+            place: cause.place,
+            ..none
         },
     }
 }

@@ -1,5 +1,5 @@
 // What the C face tells, in plain numbers: the structs of include/mukhadero.h, and the numbers of a judge's answer and of the translation's. Those of the
-// Hanoi format and of the writers are in `hanoi`. Each function takes any input.
+// Hanoi format and of the writers are in `hanoi`. Each function takes any input; docs/PROOFS.md cites them by their names, so they are no `From`.
 #![tactic(auto)]
 
 pub mod hanoi;
@@ -8,7 +8,7 @@ ghost use Rattle.std.specs.Prelude.{◌≡◌};
 ghost use Rattle.face.specs.Numbers.{answer_numbers, table_numbers};
 
 use one_mark::Translation;
-use table::{Answer, Verdict};
+use table::{Answer, Refusal, Verdict};
 
 const REFUSED: u32 = 0;
 
@@ -20,7 +20,7 @@ pub(crate) const ANSWERED: u32 = 0;
 
 // `mukhadero_answer`: a field that has no meaning for the verdict is 0.
 #[repr(C)]
-#[derive(Clone, Copy)]
+#[derive(Clone, Copy, Default)]
 pub struct AnswerNumbers {
     pub verdict: u32,
     pub number: u32,
@@ -36,7 +36,7 @@ pub struct AnswerNumbers {
 
 // `mukhadero_table`: all but number and place are 0 if it was refused.
 #[repr(C)]
-#[derive(Clone, Copy)]
+#[derive(Clone, Copy, Default)]
 pub struct TableNumbers {
     pub number: u32,
     pub place: u32,
@@ -49,65 +49,53 @@ pub struct TableNumbers {
 pub fn answer_numbers(answer: Answer) -> AnswerNumbers
     ensures { result ≡ answer_numbers answer }
 {
-    let verdict = answer.verdict;
     let depth = answer.depth;
-    match verdict {
+    let none = AnswerNumbers {
+        depth,
+        ..AnswerNumbers::default()
+    };
+    match answer.verdict {
         Verdict::Run {
             prefix,
             cycle,
             pair,
         } => AnswerNumbers {
             verdict: RUN,
-            number: ANSWERED,
-            place: 0,
-            pair: pair,
-            prefix: prefix,
-            cycle: cycle,
-            depth: depth,
+            pair,
+            prefix,
+            cycle,
+            ..none
         },
         Verdict::Empty => AnswerNumbers {
             verdict: EMPTY,
-            number: ANSWERED,
-            place: 0,
-            pair: 0,
-            prefix: 0,
-            cycle: 0,
-            depth: depth,
+            ..none
         },
         Verdict::Refused { number, place } => AnswerNumbers {
             verdict: REFUSED,
-            number: number,
-            place: place,
-            pair: 0,
-            prefix: 0,
-            cycle: 0,
-            depth: depth,
+            number,
+            place,
+            ..none
         },
     }
 }
 
 // The translation's answer in plain numbers.
-pub fn table_numbers(answer: Translation) -> TableNumbers
+pub fn table_numbers(answer: Result<Translation, Refusal>) -> TableNumbers
     ensures { result ≡ table_numbers answer }
 {
+    let none = TableNumbers::default();
     match answer {
-        Translation::Made {
-            states,
-            edges,
-            start,
-        } => TableNumbers {
+        Ok(made) => TableNumbers {
             number: ANSWERED,
-            place: 0,
-            states: states,
-            edges: edges,
-            start: start,
+            states: made.states,
+            edges: made.edges,
+            start: made.start,
+            ..none
         },
-        Translation::Refused { number, place } => TableNumbers {
-            number: number,
-            place: place,
-            states: 0,
-            edges: 0,
-            start: 0,
+        Err(cause) => TableNumbers {
+            number: cause.number,
+            place: cause.place,
+            ..none
         },
     }
 }

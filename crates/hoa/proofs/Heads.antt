@@ -1,5 +1,6 @@
 -- What a header that is read says: at least one state and at most 256, a start below them, at most 32 marks, and a permitted condition that uses them.
 -- Each token keeps it so. Assumes nothing.
+use Rattle.std.specs.Prelude.{Option, Some, None}
 use mathlib.Core.Path.{◌≡◌, refl, subst}
 use mathlib.Core.Bool.{Bool, true, false, cond, not, ◌||◌, true≢false}
 use mathlib.Core.List.{List, [], ◌∷◌}
@@ -18,8 +19,6 @@ use Rattle.hoa_tokens.specs.declared.Header.{Header}
 use Rattle.hoa_tokens.specs.declared.Header.TheVariants as header_is
 use Rattle.hoa_tokens.specs.Token.{Token, int, word, header, str, aname, sign, body, end, abort, finish, bad}
 use Rattle.hoa_tokens.specs.Stream.{Placed, tokens_at}
-use Rattle.hoa_step.specs.declared.Given.{Given}
-use Rattle.hoa_step.specs.declared.Given.TheVariants.{Not, Value}
 use Rattle.hoa_step.specs.Given.{is_given, not_below, not_above}
 use Rattle.hoa_step.specs.Machine.{go, done, wrong, End, done_at, wrong_at, cut, end_by, run, wants_int, wants_text}
 use Rattle.hoa_standard.specs.Standard.{FormulaMeaning, standard, short}
@@ -38,25 +37,25 @@ use Rattle.hoa.proofs.Formed.{Formed, Keeps, Meant, formula_kept, formula_begins
 -- ---- what is kept
 
 -- n, if it was given
-abbrev pub States : Given → Type 0
-States Not = Unit {0}
-States (Value n) = (0 < n) × (n ≤ most_job_states)
+abbrev pub States : Option ℕ → Type 0
+States None = Unit {0}
+States (Some n) = (0 < n) × (n ≤ most_job_states)
 
 -- s, if it was given
-abbrev pub Start : Given → Type 0
-Start Not = Unit {0}
-Start (Value s) = s < most_job_states
+abbrev pub Start : Option ℕ → Type 0
+Start None = Unit {0}
+Start (Some s) = s < most_job_states
 
 -- s is below n, if both were given
-abbrev pub Below : Given → Given → Type 0
-Below Not start = Unit {0}
-Below (Value n) Not = Unit {0}
-Below (Value n) (Value s) = s < n
+abbrev pub Below : Option ℕ → Option ℕ → Type 0
+Below None start = Unit {0}
+Below (Some n) None = Unit {0}
+Below (Some n) (Some s) = s < n
 
 -- c and the condition, if it was given
-abbrev pub Condition : Given → Acceptance → List ℕ → Type 0
-Condition Not condition needs = Unit {0}
-Condition (Value c) condition needs = (c ≤ most_marks) × ((wrong_condition condition needs ≡ false) × (used condition needs ≡ c))
+abbrev pub Condition : Option ℕ → Acceptance → List ℕ → Type 0
+Condition None condition needs = Unit {0}
+Condition (Some c) condition needs = (c ≤ most_marks) × ((wrong_condition condition needs ≡ false) × (used condition needs ≡ c))
 
 pub record HeadFits (h : Head) : Type 0 where
   pub states : States h.states
@@ -162,13 +161,13 @@ unfinished_kept (piece_is.Wrong n) = tt
 
 -- ---- numbers
 
-above_start : (n : ℕ) (g : Given) → not_above n g ≡ false → Below (Value n) g
-above_start n Not e = tt
-above_start n (Value s) e = leb-false n s e
+above_start : (n : ℕ) (g : Option ℕ) → not_above n g ≡ false → Below (Some n) g
+above_start n None e = tt
+above_start n (Some s) e = leb-false n s e
 
-below_states : (s : ℕ) (g : Given) → not_below s g ≡ false → Below g (Value s)
-below_states s Not e = tt
-below_states s (Value n) e = leb-false n s e
+below_states : (s : ℕ) (g : Option ℕ) → not_below s g ≡ false → Below g (Some s)
+below_states s None e = tt
+below_states s (Some n) e = leb-false n s e
 
 module _ (h : Head) (F : HeadFits h) where
   states_kept : (n : ℕ) → HeadKept (on_states h n)

@@ -1,20 +1,18 @@
 -- The law: what is read is never refused by rows 1 to 7, and keeps a job's limits. What the header says (`head_fits`) and what the rows keep (`worth_of`)
 -- is what the rows 1 to 7 ask. Assumes nothing.
+use Rattle.std.specs.Prelude.{Option, Some, None, Ok}
 use mathlib.Core.Path.{◌≡◌, refl, sym, ◌∙◌, subst}
 use mathlib.Core.Bool.{true, false, false≢true}
 use mathlib.Core.List.{List, map}
 use Prim.Native.Nat.{ℕ, ◌^◌, ◌≤◌, ◌<◌}
 use native.Mathlib.Omega.{arith}
 use lib.ListN.{length, length-map}
-use Rattle.table.specs.declared.Finding.TheVariants.{Sound}
 use Rattle.table.specs.Table.{lent}
 use Rattle.table.specs.Refusal.{refusal, used, wrong_condition}
 use Rattle.table.proofs.Sound.{Fit, fit_sound}
 use Rattle.job_text.specs.Value.{Edge}
 use Rattle.job_text.specs.Job.{most_job_states, most_job_edges, Job, Outcome, job, fault}
 use Rattle.hoa_tokens.specs.Stream.{Placed}
-use Rattle.hoa_step.specs.declared.Given.{Given}
-use Rattle.hoa_step.specs.declared.Given.TheVariants.{Not, Value}
 use Rattle.hoa_step.specs.Given.{is_given, given_or}
 use Rattle.hoa_step.specs.Machine.{End, done_at, wrong_at, cut, run}
 use Rattle.hoa_value.specs.declared.Head.{Head}
@@ -33,23 +31,23 @@ use Rattle.hoa.proofs.Sorting.{fits_at, never_falls}
 pub record Lawful (j : Job) : Type 0 where
   pub states_few : j.states ≤ most_job_states
   pub edges_few : length j.edges ≤ most_job_edges
-  pub sound : refusal (lent j.states j.start (map (λ e. e.from) j.edges) (map (λ e. e.to) j.edges) (map (λ e. e.marks) j.edges)) j.condition j.needs ≡ Sound
+  pub sound : refusal (lent j.states j.start (map (λ e. e.from) j.edges) (map (λ e. e.to) j.edges) (map (λ e. e.marks) j.edges)) j.condition j.needs ≡ Ok tt
 
 -- the start is a state, and so there is one
-start_state : (states start : Given) (k : ℕ) → is_given start ≡ true → States states → Below states start → Agrees states (given_or 0 start) k → given_or 0 start < k
-start_state states Not k g s b a = absurd (false≢true g)
-start_state Not (Value s) k g u b a = a
-start_state (Value n) (Value s) k g u b a = omega (arith, a, b)
+start_state : (states start : Option ℕ) (k : ℕ) → is_given start ≡ true → States states → Below states start → Agrees states (given_or 0 start) k → given_or 0 start < k
+start_state states None k g s b a = absurd (false≢true g)
+start_state None (Some s) k g u b a = a
+start_state (Some n) (Some s) k g u b a = omega (arith, a, b)
 
 module _ (h : Head) (k : Kept) (D : HeadDone h) (W : Worth (limits_of h) k) where
   -- the marks that edges bear are those that the condition uses
-  marks_used : (g : Given) → h.marks ≡ g → Condition g h.condition h.needs → is_given g ≡ true → used h.condition h.needs ≡ given_or 0 g
-  marks_used Not e c g = absurd (false≢true g)
-  marks_used (Value n) e c g = c.1.1
+  marks_used : (g : Option ℕ) → h.marks ≡ g → Condition g h.condition h.needs → is_given g ≡ true → used h.condition h.needs ≡ given_or 0 g
+  marks_used None e c g = absurd (false≢true g)
+  marks_used (Some n) e c g = c.1.1
 
-  permitted : (g : Given) → Condition g h.condition h.needs → is_given g ≡ true → wrong_condition h.condition h.needs ≡ false
-  permitted Not c g = absurd (false≢true g)
-  permitted (Value n) c g = c.1.0
+  permitted : (g : Option ℕ) → Condition g h.condition h.needs → is_given g ≡ true → wrong_condition h.condition h.needs ≡ false
+  permitted None c g = absurd (false≢true g)
+  permitted (Some n) c g = c.1.0
 
   fit : Fit (lent k.states (given_or 0 h.start) (map (λ (e : Edge). e.from) (sorted k.states k.edges)) (map (λ (e : Edge). e.to) (sorted k.states k.edges))
       (map (λ (e : Edge). e.marks) (sorted k.states k.edges))) h.condition h.needs

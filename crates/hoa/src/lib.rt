@@ -3,26 +3,26 @@
 #![tactic(auto)]
 
 ghost use Rattle.std.specs.Prelude.{◌≡◌};
-ghost use Rattle.hoa_step.specs.Given.{given_or};
 ghost use Rattle.hoa.specs.Reading.{limits_of};
 ghost use Rattle.hoa.specs.Returned.{refused_hoa, ReadInto};
-ghost use Rattle.hoa.specs.inner.{RowsReadInto};
+ghost use Rattle.hoa.specs.inner.{hoa_given};
 
 use hoa_entry::Limits;
-use hoa_head::{HeadEnd, read_head};
-use hoa_rows::{RowsRead, read_rows};
-use hoa_step::Given;
+use hoa_head::{HeadRead, read_head};
+use hoa_rows::read_rows;
+use hoa_tokens::BadToken;
 use hoa_value::Head;
 use table::Acceptance;
 
-// Whether the text is read, or why not, with number and place.
+// Whether the text is read, or why not, with number and place. No `Result`: it is a field of `Hoa`, beside fields that a refusal has too.
 #[derive(Clone, Copy)]
 pub enum HoaFinding {
     Read,
     Refused { number: u32, place: usize },
 }
 
-// What reading a text gives. Where it is refused the numbers are 0, and the condition is Büchi 0.
+// What reading a text gives. Where it is refused the numbers are 0, and the condition is Büchi 0: the C interface hands out each field of every text
+// (`mukhadero_read_hoa`), so this is no `Result`.
 #[derive(Clone, Copy)]
 pub struct Hoa {
     pub finding: HoaFinding,
@@ -34,9 +34,10 @@ pub struct Hoa {
 }
 
 // A text that is refused.
-fn refused(number: u32, place: usize) -> Hoa
-    ensures { result ≡ refused_hoa number place }
+fn refused(bad: BadToken) -> Hoa
+    ensures { result ≡ refused_hoa bad.number bad.place }
 {
+    let BadToken { number, place } = bad;
     Hoa {
         finding: HoaFinding::Refused { number, place },
         states: 0,
@@ -47,68 +48,46 @@ fn refused(number: u32, place: usize) -> Hoa
     }
 }
 
-// A number of the header, or 0 where it was not given.
-fn or_zero(number: Given) -> u32
-    ensures { result ≡ given_or 0 number }
-{
-    match number {
-        Given::Value(n) => n,
-        Given::Not => 0,
-    }
-}
-
-// What the header says of the rows.
+// What the header says of the rows; 0 for a number that was not given.
 fn limits_of(head: Head) -> Limits
     ensures { result ≡ limits_of head }
 {
-    let states = head.states;
-    let start = head.start;
-    let props = head.props;
-    let marks = head.marks;
     Limits {
-        states,
-        start: or_zero(start),
-        props: or_zero(props),
-        marks: or_zero(marks),
+        states: head.states,
+        start: head.start.unwrap_or(0),
+        props: head.props.unwrap_or(0),
+        marks: head.marks.unwrap_or(0),
     }
 }
 
-// The rows of a text behind its header, which ends before `at`, in the three lent tables; or the refusal, and the tables as they were.
-fn read_body(
+// The header of a text and the rows behind it, in the three lent tables; or the refusal, and the tables as they were.
+fn read_whole(
     text: &[u8],
-    at: usize,
-    head: Head,
     from: &mut [u32],
     to: &mut [u32],
     marks: &mut [u32],
-) -> Hoa
-    ensures { RowsReadInto head text.now at from.old to.old marks.old from.new to.new marks.new result }
+) -> Result<Hoa, BadToken>
+    ensures { ReadInto text.now from.old to.old marks.old from.new to.new marks.new (hoa_given result) }
 {
-    let rows = read_rows(text, at, limits_of(head), from, to, marks);
-    let start = head.start;
-    let condition = head.condition;
+    let HeadRead { head, next } = read_head(text)?;
+    let rows = read_rows(text, next, limits_of(head), from, to, marks)?;
     let needs = head.needs;
-    match rows {
-        RowsRead::Refused { number, place } => refused(number, place),
-        RowsRead::Kept { states, edges } => Hoa {
-            finding: HoaFinding::Read,
-            states,
-            start: or_zero(start),
-            condition,
-            needs,
-            edges,
-        },
-    }
+    Ok(Hoa {
+        finding: HoaFinding::Read,
+        states: rows.states,
+        start: head.start.unwrap_or(0),
+        condition: head.condition,
+        needs,
+        edges: rows.edges,
+    })
 }
 
 // What a text says, its edges in the three lent tables with zeros after them; or its refusal, and the tables as they were.
 pub fn read_hoa(text: &[u8], from: &mut [u32], to: &mut [u32], marks: &mut [u32]) -> Hoa
     ensures { ReadInto text.now from.old to.old marks.old from.new to.new marks.new result }
 {
-    let opened = read_head(text);
-    let end = opened.end;
-    match end {
-        HeadEnd::Refused { number, place } => refused(number, place),
-        HeadEnd::Body { next } => read_body(text, next, opened.head, from, to, marks),
+    match read_whole(text, from, to, marks) {
+        Ok(hoa) => hoa,
+        Err(bad) => refused(bad),
     }
 }

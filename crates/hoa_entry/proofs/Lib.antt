@@ -1,5 +1,3 @@
--- Told: what a token is by its kind
-pub mod Told
 -- Signs: a mark of one byte takes one byte
 pub mod Signs
 -- Steps: the machine's steps at the token that is found, sigs and labels inside the rows

@@ -1,5 +1,5 @@
 -- The rows token by token, behind `--BODY--` (docs/RULES.md, "The Hanoi format", the faulty token). Assumes nothing.
-use Rattle.std.specs.Prelude.{Bool, false, cond, ◌||◌, ◌&&◌, List, [], ◌∷◌, ◌++◌, ℕ, zero, suc, max, eqb, ltb, leb, length}
+use Rattle.std.specs.Prelude.{Option, Some, None, Bool, false, cond, ◌||◌, ◌&&◌, List, [], ◌∷◌, ◌++◌, ℕ, zero, suc, max, eqb, ltb, leb, length}
 use Rattle.job_text.specs.Value.{Edge}
 use Rattle.hoa_tokens.specs.declared.Header.{Header}
 use Rattle.hoa_tokens.specs.declared.Header.TheVariants as header_is
@@ -8,8 +8,6 @@ use Rattle.hoa_tokens.specs.declared.Sign.TheVariants as sign_is
 use Rattle.hoa_tokens.specs.Token.{Token, int, word, header, str, aname, sign, body, end, abort, finish, bad}
 use Rattle.hoa_label.specs.Labels as label
 use Rattle.hoa_label.specs.Labels.{LabelState, label_begin, label_step, LabelStep}
-use Rattle.hoa_step.specs.declared.Given.{Given}
-use Rattle.hoa_step.specs.declared.Given.TheVariants.{Not, Value}
 use Rattle.hoa_entry.specs.declared.Limits.{Limits}
 use Rattle.hoa_step.specs.Given.{not_below}
 use Rattle.job_text.specs.Job.{most_job_states, most_job_edges}
@@ -144,9 +142,9 @@ abbrev pub full_rows : Limits → Rows → Bool
 full_rows l b = not_below (length b.seen) l.states
 
 -- "fewer than n rows", or without n "a number among s, rows and targets that is not below the number of rows"
-abbrev pub wrong_end : Given → Rows → Bool
-wrong_end (Value n) b = ltb (length b.seen) n
-wrong_end Not b = leb (length b.seen) b.largest
+abbrev pub wrong_end : Option ℕ → Rows → Bool
+wrong_end (Some n) b = ltb (length b.seen) n
+wrong_end None b = leb (length b.seen) b.largest
 
 -- "An edge before the first `State:`" is 40
 abbrev pub behind_row : List ℕ → RowStep → RowStep

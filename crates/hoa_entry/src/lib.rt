@@ -7,12 +7,10 @@ pub mod row;
 pub mod sig;
 pub mod token;
 
-use hoa_step::Given;
-
 // What the rows of a text are held against: n, if it was given, the start, the number of propositions and of marks.
 #[derive(Clone, Copy)]
 pub struct Limits {
-    pub states: Given,
+    pub states: Option<u32>,
     pub start: u32,
     pub props: u32,
     pub marks: u32,

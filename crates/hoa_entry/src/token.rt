@@ -38,6 +38,7 @@ fn entry_sign(sign: Sign) -> Entry
 }
 
 // What a token is.
+#[tactic(auto, unfolding(crate::specs::Rows::entry_of))]
 fn entry_of(kind: Kind) -> Entry
     ensures { (text : List ℕ) (p q : ℕ) → result ≡ entry_of (token_of text p q kind) }
 {
@@ -57,10 +58,8 @@ pub fn entry_at(text: &[u8], at: usize) -> EntryAt
     ensures { EntryHere text.now at result }
 {
     let found = token_at(text, at);
-    let kind = found.kind;
-    let entry = entry_of(kind);
     EntryAt {
-        entry,
+        entry: entry_of(found.kind),
         place: found.first,
         next: found.next,
     }

@@ -1,5 +1,3 @@
--- Ends: the reader's smaller functions
-pub mod Ends
 -- Readings: the reader's loop
 pub mod Readings
 -- Admitted: every formula of std(c) is admitted with its meaning

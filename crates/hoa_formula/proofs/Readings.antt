@@ -2,6 +2,7 @@
 use mathlib.Core.Bool.{Bool, true, false, cond}
 use mathlib.Core.List.{List, [], reverse}
 use mathlib.Core.Path.{◌≡◌, refl, sym, ap, ◌∙◌}
+use Rattle.std.specs.Prelude.{Option, Some, None, Ok, Err}
 use Prim.Native.Nat.{ℕ, zero, suc, ◌≤◌, ◌<◌, ◌%◌, ◌-◌}
 use native.Mathlib.Omega.{arith}
 use lib.Dec.{eqb, ltb}
@@ -26,8 +27,8 @@ use Rattle.hoa_turn.specs.declared.step.Turn.TheVariants as turn_is
 use Rattle.hoa_turn.specs.declared.needs.Needs.{Needs}
 use Rattle.hoa_formula.specs.declared.Complete.{Complete}
 use Rattle.hoa_formula.specs.declared.Complete.TheVariants as complete_is
-use Rattle.hoa_formula.specs.declared.FormulaFound.TheVariants as found_is
 use Rattle.hoa_formula.specs.declared.FormulaRead.{FormulaRead}
+use Rattle.hoa_formula.specs.declared.FormulaRead.TheVariants as found_is
 use Rattle.hoa_standard.specs.Standard.{FormulaMeaning, short, no_needs, eight_needs}
 use Rattle.hoa_standard.specs.Machines.{Buchi, RabinBehind, StreettBehind, Bare, TruthBehind}
 use Rattle.hoa_standard.specs.Formulas.{by_done, FormulaStep, over_at, onward, piece_of, meaning_of, formula_step, formula_begin, formula_run}
@@ -36,7 +37,7 @@ use Rattle.hoa_standard.specs.inner.Sides.{behind, AheadWithin, PastWithin, past
 use Rattle.hoa_turn.specs.inner.Turns as turns
 use Rattle.hoa_turn.specs.inner.Turns.{StageWithin, state_of, turn_of, formula, Within, turn_at}
 use Rattle.hoa_turn.specs.inner.Counts.{Counts, Bounded, tally, counted_to}
-use Rattle.hoa_formula.specs.inner.Ends.{kind_piece, complete_to, complete_meaning, found, complete_read, past_read, over_read}
+use Rattle.hoa_formula.specs.inner.Ends.{kind_piece, complete_to, complete_meaning, done_read, past_read, over_read}
 use Rattle.hoa_turn.proofs.Steps.{needs_next, meaning_at, turn_is_step}
 use Rattle.hoa_turn.proofs.Keeping.{keeps}
 
@@ -123,48 +124,48 @@ done_is c ns (past_kinds.Bare zero) = refl
 done_is c ns (past_kinds.Bare (suc x)) = refl
 
 -- the reader's answer says the meaning
-read_says : (text : List ℕ) (c : ℕ) (ns : List ℕ) (n : Needs) (at : ℕ) (k : Complete) → Counts ns n
-    → over_at (complete_meaning c ns k) (tokens_at text at) ≡ found_says text (complete_read c n at k).needs (complete_read c n at k).found
-read_says text c ns n at complete_is.Buchi h = refl
-read_says text c ns n at complete_is.Rabin h = rw (h.pairs, h.needs)
-read_says text c ns n at complete_is.Streett h = refl
-read_says text c ns n at complete_is.True h = refl
-read_says text c ns n at complete_is.False h = refl
-read_says text c ns n at complete_is.None h = refl
+read_says : (text : List ℕ) (c : ℕ) (ns : List ℕ) (n : Needs) (at : ℕ) (k : Option Complete) → Counts ns n
+    → over_at (complete_meaning c ns k) (tokens_at text at) ≡ found_says text (Ok (done_read c n at k))
+read_says text c ns n at (Some complete_is.Buchi) h = refl
+read_says text c ns n at (Some complete_is.Rabin) h = rw (h.pairs, h.needs)
+read_says text c ns n at (Some complete_is.Streett) h = refl
+read_says text c ns n at (Some complete_is.True) h = refl
+read_says text c ns n at (Some complete_is.False) h = refl
+read_says text c ns n at None h = refl
 
-read_place : (c : ℕ) (n : Needs) (at : ℕ) (k : Complete) → found_place (complete_read c n at k).found ≡ at
-read_place c n at complete_is.Buchi = refl
-read_place c n at complete_is.Rabin = refl
-read_place c n at complete_is.Streett = refl
-read_place c n at complete_is.True = refl
-read_place c n at complete_is.False = refl
-read_place c n at complete_is.None = refl
+read_place : (c : ℕ) (n : Needs) (at : ℕ) (k : Option Complete) → found_place (Ok (done_read c n at k)) ≡ at
+read_place c n at (Some complete_is.Buchi) = refl
+read_place c n at (Some complete_is.Rabin) = refl
+read_place c n at (Some complete_is.Streett) = refl
+read_place c n at (Some complete_is.True) = refl
+read_place c n at (Some complete_is.False) = refl
+read_place c n at None = refl
 
 eight_length : (ns : List ℕ) → length ns ≤ 8 → length (eight_needs ns) ≡ 8
 unfolding eight_needs
 eight_length ns l =
     omega (arith, length-append (reverse ns) (replicate (8 - length ns) 0), length-reverse ns, length-replicate {A = ℕ} (8 - length ns) 0)
 
-read_needs : (c : ℕ) (ns : List ℕ) (n : Needs) (at : ℕ) (k : Complete) → Counts ns n → FoundNeeds (complete_read c n at k).found (complete_read c n at k).needs
-read_needs c ns n at complete_is.Buchi h = refl
-read_needs c ns n at complete_is.Rabin h = rw h.needs (eight_length ns h.few)
-read_needs c ns n at complete_is.Streett h = refl
-read_needs c ns n at complete_is.True h = refl
-read_needs c ns n at complete_is.False h = refl
-read_needs c ns n at complete_is.None h = refl
+read_needs : (c : ℕ) (ns : List ℕ) (n : Needs) (at : ℕ) (k : Option Complete) → Counts ns n → FoundNeeds (Ok (done_read c n at k))
+read_needs c ns n at (Some complete_is.Buchi) h = refl
+read_needs c ns n at (Some complete_is.Rabin) h = rw h.needs (eight_length ns h.few)
+read_needs c ns n at (Some complete_is.Streett) h = refl
+read_needs c ns n at (Some complete_is.True) h = refl
+read_needs c ns n at (Some complete_is.False) h = refl
+read_needs c ns n at None h = tt
 
 -- what is to be said where the formula is over
 record Says (text : List ℕ) (at : ℕ) (m : FormulaMeaning) (r : FormulaRead) : Type 0 where
-  is : over_at m (tokens_at text at) ≡ found_says text r.needs r.found
-  place : found_place r.found ≡ at
-  needs : FoundNeeds r.found r.needs
+  is : over_at m (tokens_at text at) ≡ found_says text (Ok r)
+  place : found_place (Ok r) ≡ at
+  needs : FoundNeeds (Ok r)
 
 past_says : (text : List ℕ) (c k : ℕ) (ns : List ℕ) (n : Needs) (at : ℕ) (p : Past) → Counts ns n → Says text at (meaning_of c k ns (past_is c p)) (past_read c k n at p)
 unfolding meaning_of
 past_says text c k ns n at p h = by (ltb k c)
   where
-    by : (t : Bool) → Says text at (cond t short (by_done c ns (past_is c p))) (cond t (found (found_is.Short at) no_needs) (complete_read c n at (complete_to p)))
-    by true = record { is = refl; place = refl; needs = refl }
+    by : (t : Bool) → Says text at (cond t short (by_done c ns (past_is c p))) (cond t (found_is.Short at) (done_read c n at (complete_to p)))
+    by true = record { is = refl; place = refl; needs = tt }
     by false =
         record {
           is = ap (λ (m : FormulaMeaning). over_at m (tokens_at text at)) (done_is c ns p) ∙ read_says text c ns n at (complete_to p) h;
@@ -273,26 +274,26 @@ module _ (text : List ℕ) (at c : ℕ) (f : Formula) (n : Needs) (here : ℕ) (
       left_no : piece_is.Foreign ≡ piece_is.Left → ⊥
       left_no e = let z : ◌≡◌ {A = ℕ} 0 1 = cc in omega arith
 
-  pub reading_wrong : (k : ℕ) → turn_at c f p n.pairs ≡ turn_is.Wrong k → FormulaAt text at c (found (found_is.Refused k token.first) no_needs)
+  pub reading_wrong : (k : ℕ) → turn_at c f p n.pairs ≡ turn_is.Wrong k → FormulaAt text at c (Err (record { number = k; place = token.first }))
   unfolding tok
   reading_wrong k e =
       record {
         is = run_says (turn_is.Wrong k) e;
         behind_at = omega (arith, t.behind_at, r.behind);
         within = λ l. omega (arith, t.within (r.inside l), t.behind_first);
-        needs = refl;
+        needs = tt;
       }
 
   -- only behind an operand is the formula over
   stage_says : (g : Stage) (d : ℕ) → turns.on_stage c d f.atoms g p n.pairs ≡ turn_is.Over
       → Says text here (meaning_at c f.atoms r.needs g) (over_read c f.atoms n here g)
   stage_says (stage_is.After b) d e = past_says text c f.atoms r.needs n here b r.counts
-  stage_says (stage_is.Operand a) d e = record { is = refl; place = refl; needs = refl }
-  stage_says (stage_is.Named b) d e = record { is = refl; place = refl; needs = refl }
-  stage_says (stage_is.Bracket b) d e = record { is = refl; place = refl; needs = refl }
-  stage_says (stage_is.Number b) d e = record { is = refl; place = refl; needs = refl }
+  stage_says (stage_is.Operand a) d e = record { is = refl; place = refl; needs = tt }
+  stage_says (stage_is.Named b) d e = record { is = refl; place = refl; needs = tt }
+  stage_says (stage_is.Bracket b) d e = record { is = refl; place = refl; needs = tt }
+  stage_says (stage_is.Number b) d e = record { is = refl; place = refl; needs = tt }
 
-  pub reading_over : turn_at c f p n.pairs ≡ turn_is.Over → FormulaAt text at c (over_read c f.atoms n here f.stage)
+  pub reading_over : turn_at c f p n.pairs ≡ turn_is.Over → FormulaAt text at c (Ok (over_read c f.atoms n here f.stage))
   unfolding tok
   reading_over e =
       let s = stage_says f.stage f.depth e in
@@ -302,22 +303,3 @@ module _ (text : List ℕ) (at c : ℕ) (f : Formula) (n : Needs) (here : ℕ) (
         within = λ l. rw s.place (r.inside l);
         needs = s.needs;
       }
-
--- the reader's turn, by what its functions promise
-pub turned : (c : ℕ) (f : Formula) (k : ℕ) {p q : Piece} {x y : Turn} → q ≡ p → x ≡ turn_at c f q k → x ≡ y → turn_at c f p k ≡ y
-turned c f k e s g = ap (λ (z : Piece). turn_at c f z k) (sym e) ∙ sym s ∙ g
-
--- the loop goes on with the needs that were counted
-pub reading_counted : {text : List ℕ} {at c : ℕ} {f' : Formula} (n : Needs) {n' : Needs} {here : ℕ} (f : Formula) {p q : Piece}
-    → n' ≡ counted_to n c f.atoms f.stage q
-    → q ≡ p
-    → Reading text at c f' (counted_to n c f.atoms f.stage p) here
-    → Reading text at c f' n' here
-reading_counted n f e g r = rw (e, g) r
-
--- no count is above the place, and `(` has room
-pub step_asks : (text : List ℕ) (at c : ℕ) (f : Formula) (n : Needs) (here : ℕ) (r : Reading text at c f n here) (token : Found) (t : TokenAt text here token) (q : Piece)
-    → q ≡ kind_piece token.kind
-    → length text < 18446744073709551616
-    → Within here f × (q ≡ piece_is.Left → here < bracket_room)
-step_asks text at c f n here r token t q e l = (r.within, λ g. left_room text at c f n here r token t l (sym e ∙ g))

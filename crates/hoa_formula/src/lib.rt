@@ -5,30 +5,28 @@
 ghost use Rattle.std.specs.Prelude.{◌≡◌};
 ghost use Rattle.hoa_standard.specs.Formulas.{word_piece, sign_piece};
 ghost use Rattle.hoa_formula.specs.Reading.{FormulaAt};
-ghost use Rattle.hoa_formula.specs.inner.Ends.{kind_piece, if_none, complete_to, standard_read, complete_read, over_read};
+ghost use Rattle.hoa_formula.specs.inner.Ends.{kind_piece, complete_to, standard_read, complete_read, over_read};
 
 use hoa_standard::{Ahead, Past, Piece};
-use hoa_tokens::{Kind, Sign, Word, token_at};
+use hoa_tokens::{BadToken, Kind, Sign, Word, token_at};
 use hoa_turn::needs::{Needs, counted};
 use hoa_turn::step::{Formula, Stage, Turn, step};
 use table::Acceptance;
 
-// What is found: a standard formula, one with too few atoms, or why it is refused. `next` is where the token behind the formula is read again.
+// What is found: a standard formula with its eight needs, 0 unless it is a Rabin one, or one with too few atoms. `next` is where the token behind the formula is read again.
 #[derive(Clone, Copy)]
-pub enum FormulaFound {
-    Standard { condition: Acceptance, next: usize },
-    Short { next: usize },
-    Refused { number: u32, place: usize },
+pub enum FormulaRead {
+    Standard {
+        condition: Acceptance,
+        needs: [u32; 8],
+        next: usize,
+    },
+    Short {
+        next: usize,
+    },
 }
 
-// What is found, and the eight needs: 0 unless the formula is a Rabin one.
-#[derive(Clone, Copy)]
-pub struct FormulaRead {
-    pub found: FormulaFound,
-    pub needs: [u32; 8],
-}
-
-// The kind of formula that is complete.
+// The kind of a complete formula.
 #[derive(Clone, Copy)]
 pub enum Complete {
     Buchi,
@@ -36,7 +34,6 @@ pub enum Complete {
     Streett,
     True,
     False,
-    None,
 }
 
 // A word to a formula.
@@ -46,10 +43,9 @@ fn word_piece(w: Word) -> Piece
     match w {
         Word::True => Piece::Truth(true),
         Word::False => Piece::Truth(false),
-        Word::V1 => Piece::Name,
         Word::Inf => Piece::Inf,
         Word::Fin => Piece::Fin,
-        Word::Other => Piece::Name,
+        Word::V1 | Word::Other => Piece::Name,
     }
 }
 
@@ -80,43 +76,28 @@ fn piece_of(k: Kind) -> Piece
     }
 }
 
-// The kind, where no bracket is open.
-fn if_none(depth: usize, k: Complete) -> Complete
-    ensures { result ≡ if_none depth k }
-{
-    if depth == 0 {
-        return k;
-    }
-    Complete::None
-}
-
-// The kind of formula that is complete behind an operand.
-fn kind_complete(p: Past) -> Complete
+// The kind of formula that is complete behind an operand, with no open bracket.
+fn kind_complete(p: Past) -> Option<Complete>
     ensures { result ≡ complete_to p }
 {
     match p {
-        Past::Truth { value, depth } => {
-            if value {
-                return if_none(depth, Complete::True);
-            }
-            if_none(depth, Complete::False)
-        }
-        Past::Buchi(d) => if_none(d, Complete::Buchi),
-        Past::FirstFin(d) => if_none(d, Complete::Rabin),
+        Past::Truth {
+            value: true,
+            depth: 0,
+        } => Some(Complete::True),
+        Past::Truth {
+            value: false,
+            depth: 0,
+        } => Some(Complete::False),
+        Past::Buchi(0) => Some(Complete::Buchi),
+        Past::FirstFin(0) | Past::RabinGroup(0) => Some(Complete::Rabin),
         Past::RabinPair {
-            whole,
-            plain: _,
-            inner,
-        } => {
-            if inner == 0 {
-                return if_none(whole, Complete::Rabin);
-            }
-            Complete::None
-        }
-        Past::RabinGroup(d) => if_none(d, Complete::Rabin),
-        Past::StreettPair(d) => if_none(d, Complete::Streett),
-        Past::Bare(d) => if_none(d, Complete::Streett),
-        _ => Complete::None,
+            whole: 0,
+            inner: 0,
+            ..
+        } => Some(Complete::Rabin),
+        Past::StreettPair(0) | Past::Bare(0) => Some(Complete::Streett),
+        _ => None,
     }
 }
 
@@ -124,9 +105,10 @@ fn kind_complete(p: Past) -> Complete
 fn standard(condition: Acceptance, next: usize) -> FormulaRead
     ensures { result ≡ standard_read condition next }
 {
-    FormulaRead {
-        found: FormulaFound::Standard { condition, next },
-        needs: [0u32; 8],
+    FormulaRead::Standard {
+        condition,
+        needs: [0; 8],
+        next,
     }
 }
 
@@ -134,25 +116,17 @@ fn standard(condition: Acceptance, next: usize) -> FormulaRead
 fn read_complete(c: u32, n: Needs, next: usize, k: Complete) -> FormulaRead
     ensures { result ≡ complete_read c n next k }
 {
+    let Needs { pairs, needs } = n;
     match k {
         Complete::Buchi => standard(Acceptance::Buchi(c), next),
-        Complete::Rabin => {
-            let needs = n.needs;
-            FormulaRead {
-                found: FormulaFound::Standard {
-                    condition: Acceptance::Rabin(n.pairs),
-                    next,
-                },
-                needs,
-            }
-        }
+        Complete::Rabin => FormulaRead::Standard {
+            condition: Acceptance::Rabin(pairs),
+            needs,
+            next,
+        },
         Complete::Streett => standard(Acceptance::Streett(c / 2), next),
         Complete::True => standard(Acceptance::Buchi(0), next),
         Complete::False => standard(Acceptance::Rabin(0), next),
-        Complete::None => FormulaRead {
-            found: FormulaFound::Short { next },
-            needs: [0u32; 8],
-        },
     }
 }
 
@@ -160,23 +134,17 @@ fn read_complete(c: u32, n: Needs, next: usize, k: Complete) -> FormulaRead
 fn over(c: u32, atoms: u32, n: Needs, next: usize, stage: Stage) -> FormulaRead
     ensures { result ≡ over_read c atoms n next stage }
 {
-    let Stage::After(p) = stage else {
-        return FormulaRead {
-            found: FormulaFound::Short { next },
-            needs: [0u32; 8],
-        };
-    };
-    if atoms < c {
-        return FormulaRead {
-            found: FormulaFound::Short { next },
-            needs: [0u32; 8],
-        };
+    match stage {
+        Stage::After(p) if c <= atoms => match kind_complete(p) {
+            Some(k) => read_complete(c, n, next, k),
+            None => FormulaRead::Short { next },
+        },
+        _ => FormulaRead::Short { next },
     }
-    read_complete(c, n, next, kind_complete(p))
 }
 
-// The formula with c marks that begins at a place: its condition and needs, or that it is short, or where it is refused.
-pub fn read_formula(text: &[u8], at: usize, c: u32) -> FormulaRead
+// The formula with c marks that begins at a place: its condition and needs, or that it is short; or where it is refused.
+pub fn read_formula(text: &[u8], at: usize, c: u32) -> Result<FormulaRead, BadToken>
     ensures { FormulaAt text.now at c result }
 {
     let mut formula = Formula {
@@ -186,30 +154,24 @@ pub fn read_formula(text: &[u8], at: usize, c: u32) -> FormulaRead
     };
     let mut needs = Needs {
         pairs: 0,
-        needs: [0u32; 8],
+        needs: [0; 8],
     };
     let mut here = at;
     loop {
         let token = token_at(text, here);
-        let kind = token.kind;
-        let p = piece_of(kind);
-        let atoms = formula.atoms;
-        let stage = formula.stage;
+        let p = piece_of(token.kind);
         match step(c, formula, p, needs.pairs, here) {
             Turn::Go(f) => {
-                needs = counted(needs, c, atoms, stage, p);
+                needs = counted(needs, c, formula.atoms, formula.stage, p);
                 formula = f;
                 here = token.next;
             }
-            Turn::Over => return over(c, atoms, needs, here, stage),
+            Turn::Over => return Ok(over(c, formula.atoms, needs, here, formula.stage)),
             Turn::Wrong(number) => {
-                return FormulaRead {
-                    found: FormulaFound::Refused {
-                        number,
-                        place: token.first,
-                    },
-                    needs: [0u32; 8],
-                };
+                return Err(BadToken {
+                    number,
+                    place: token.first,
+                });
             }
         }
     }

@@ -1,4 +1,5 @@
 -- What is read is a text of the subset, within the limits, that says the job (`accepted`). Assumes nothing.
+use Rattle.std.specs.Prelude.{Option, Some, None}
 use mathlib.Core.Bool.{true, false, false≢true}
 use mathlib.Core.List.{List, [], ◌∷◌}
 use mathlib.Core.Path.{◌≡◌, refl, sym, ap, subst, ◌∙◌}
@@ -7,6 +8,7 @@ use native.Mathlib.Omega.{arith}
 use borrow.Author.Tests.{ltb-false, leb-false}
 use lib.Dec.{leb}
 use lib.ListN.{length}
+use Rattle.std.specs.Prelude.{Option, Some, None}
 use Rattle.table.specs.declared.Acceptance.{Acceptance}
 use Rattle.job_text.specs.Value.{Edge}
 use Rattle.job_text.specs.Job.{Job, Outcome, job, fault, most_job_states, most_job_edges}
@@ -14,8 +16,6 @@ use Rattle.hoa_tokens.specs.declared.Word.TheVariants as word_is
 use Rattle.hoa_tokens.specs.declared.Header.TheVariants as header_is
 use Rattle.hoa_tokens.specs.Token.{Token, word, header, body}
 use Rattle.hoa_tokens.specs.Stream.{Placed, tokens_at}
-use Rattle.hoa_step.specs.declared.Given.{Given}
-use Rattle.hoa_step.specs.declared.Given.TheVariants.{Not, Value}
 use Rattle.hoa_step.specs.Given.{is_given, given_or, not_below}
 use Rattle.hoa_step.specs.Machine.{End, done_at, wrong_at, cut, run}
 use Rattle.hoa_value.specs.declared.Head.{Head}
@@ -82,39 +82,39 @@ parts text j e = by_head (head_end text) refl e
 
 -- ---- what the items gave
 
-no_given : {A : Type 0} → is_given Not ≡ true → A
+no_given : {A : Type 0} → is_given None ≡ true → A
 no_given e = absurd (false≢true e)
 
-once_of : {A : Type 0} {gives : A → Type 0} {f : Given} {xs : List A} → Settles gives Not xs f → length xs ≤ 1
+once_of : {A : Type 0} {gives : A → Type 0} {f : Option ℕ} {xs : List A} → Settles gives None xs f → length xs ≤ 1
 once_of (nowhere _ e _) = omega (arith, ap length e)
 once_of (ahead x _ e _) = omega (arith, ap length e)
 once_of (before _ g _) = no_given g
 
-start_of : (f : Given) (xs : List Conj) → is_given f ≡ true → Settles (StartIs f) Not xs f → xs ≡ one (given_or 0 f) ∷ []
+start_of : (f : Option ℕ) (xs : List Conj) → is_given f ≡ true → Settles (StartIs f) None xs f → xs ≡ one (given_or 0 f) ∷ []
 start_of f xs g (nowhere _ _ n) = absurd (false≢true (sym (ap is_given n) ∙ g))
 start_of f xs g (ahead (one s) _ e h) = e ∙ ap (λ n. one n ∷ []) (sym (ap (given_or 0) h))
 start_of f xs g (ahead (more s c) _ e h) = absurd h
 start_of f xs g (before _ q _) = no_given q
 
 -- the formula that was given
-record FormulaOf (xs : List Formula) (f : Given) (condition : Acceptance) (needs : List ℕ) : Type 0 where
+record FormulaOf (xs : List Formula) (f : Option ℕ) (condition : Acceptance) (needs : List ℕ) : Type 0 where
   formula : Formula
   only : xs ≡ formula ∷ []
   marks : formula.marks ≡ given_or 0 f
   means : StandardAs formula condition needs
 
-formula_of_lem : (f : Given) (condition : Acceptance) (needs : List ℕ) (xs : List Formula) → is_given f ≡ true
-    → Settles (λ x. (f ≡ Value x.marks) × StandardAs x condition needs) Not xs f → FormulaOf xs f condition needs
+formula_of_lem : (f : Option ℕ) (condition : Acceptance) (needs : List ℕ) (xs : List Formula) → is_given f ≡ true
+    → Settles (λ x. (f ≡ Some x.marks) × StandardAs x condition needs) None xs f → FormulaOf xs f condition needs
 formula_of_lem f condition needs xs g (nowhere _ _ n) = absurd (false≢true (sym (ap is_given n) ∙ g))
 formula_of_lem f condition needs xs g (ahead x _ e h) = record { formula = x; only = e; marks = sym (ap (given_or 0) h.0); means = h.1 }
 formula_of_lem f condition needs xs g (before _ q _) = no_given q
 
-props_of_lem : (f : Given) (xs : List (List (List ℕ))) → Settles (λ ns. f ≡ Value (length ns)) Not xs f → given_or 0 f ≡ props_of xs
+props_of_lem : (f : Option ℕ) (xs : List (List (List ℕ))) → Settles (λ ns. f ≡ Some (length ns)) None xs f → given_or 0 f ≡ props_of xs
 props_of_lem f xs (nowhere _ e n) = ap (given_or 0) n ∙ sym (ap props_of e)
 props_of_lem f xs (ahead ns _ e h) = ap (given_or 0) h ∙ sym (ap props_of e)
 props_of_lem f xs (before _ q _) = no_given q
 
-states_of_lem : (f : Given) (xs : List ℕ) (rs : List Row) (n : ℕ) → Settles (λ m. f ≡ Value m) Not xs f → (f ≡ Not → n ≡ length rs) → ((m : ℕ) → f ≡ Value m → n ≡ m)
+states_of_lem : (f : Option ℕ) (xs : List ℕ) (rs : List Row) (n : ℕ) → Settles (λ m. f ≡ Some m) None xs f → (f ≡ None → n ≡ length rs) → ((m : ℕ) → f ≡ Some m → n ≡ m)
     → n ≡ states_of xs rs
 states_of_lem f xs rs n (nowhere _ e q) a b = a q ∙ sym (ap (λ ys. states_of ys rs) e)
 states_of_lem f xs rs n (ahead m _ e h) a b = b m h ∙ sym (ap (λ ys. states_of ys rs) e)
@@ -123,7 +123,7 @@ states_of_lem f xs rs n (before _ q _) a b = no_given q
 -- ---- how many rows
 
 -- where n is given, no more rows than that
-rows_room : (l : Limits) (n : ℕ) (b last : Rows) (rs : List Row) → l.states ≡ Value n → TakesRows l b rs last → length b.seen ≤ n → length last.seen ≤ n
+rows_room : (l : Limits) (n : ℕ) (b last : Rows) (rs : List Row) → l.states ≡ Some n → TakesRows l b rs last → length b.seen ≤ n → length last.seen ≤ n
 rows_room l n b last _ q (takes_no_row e) h = subst (λ (x : Rows). length x.seen ≤ n) e h
 rows_room l n b last _ q (takes_row_more {b' = b'} {r = r} f fs) h =
     let seen : length b'.seen ≡ suc (length b.seen) = ap length (edges_seen l _ b' r.edges f.edges_fit) in
@@ -141,18 +141,18 @@ numbers_many [] = refl
 numbers_many (r ∷ rs) = ap suc (numbers_many rs)
 
 -- the number of states, by whether it was given
-data Counts (g f : Given) (last : Rows) : Type 0 where
-  counted : g ≡ Not → last.largest < length last.seen → Counts g f last
-  said : (n : ℕ) → g ≡ Value n → length last.seen ≡ n → given_or 0 f < n → Counts g f last
+data Counts (g f : Option ℕ) (last : Rows) : Type 0 where
+  counted : g ≡ None → last.largest < length last.seen → Counts g f last
+  said : (n : ℕ) → g ≡ Some n → length last.seen ≡ n → given_or 0 f < n → Counts g f last
 
-agree_below : (n : ℕ) (f : Given) → is_given f ≡ true → Agree (Value n) f → given_or 0 f < n
-agree_below n Not g a = absurd (false≢true g)
-agree_below n (Value s) g a = a
+agree_below : (n : ℕ) (f : Option ℕ) → is_given f ≡ true → Agree (Some n) f → given_or 0 f < n
+agree_below n None g a = absurd (false≢true g)
+agree_below n (Some s) g a = a
 
-counts : (l : Limits) (g f : Given) (b last : Rows) (rs : List Row) → l.states ≡ g → is_given f ≡ true → Agree g f → b.seen ≡ [] → TakesRows l b rs last → wrong_end g last ≡ false
+counts : (l : Limits) (g f : Option ℕ) (b last : Rows) (rs : List Row) → l.states ≡ g → is_given f ≡ true → Agree g f → b.seen ≡ [] → TakesRows l b rs last → wrong_end g last ≡ false
     → Counts g f last
-counts l Not f b last rs q g a z t w = counted refl (leb-false (length last.seen) last.largest w)
-counts l (Value n) f b last rs q g a z t w =
+counts l None f b last rs q g a z t w = counted refl (leb-false (length last.seen) last.largest w)
+counts l (Some n) f b last rs q g a z t w =
     said n refl
     (omega (arith, rows_room l n b last rs q t (omega (arith, ap length z)), ltb-false (length last.seen) n w))
     (agree_below n f g a)
@@ -160,25 +160,25 @@ counts l (Value n) f b last rs q g a z t w =
 -- ---- the header and the rows together
 
 -- how many rows there are at least
-below_count : (g f : Given) (last : Rows) → Counts g f last → (q : ℕ) → not_below q g ≡ false → q ≤ last.largest → q < length last.seen
+below_count : (g f : Option ℕ) (last : Rows) → Counts g f last → (q : ℕ) → not_below q g ≡ false → q ≤ last.largest → q < length last.seen
 below_count g f last (counted _ c) q n m = omega arith
 below_count g f last (said n e c _) q u m = omega (arith, leb-false n q (sym (ap (not_below q) e) ∙ u))
 
-some_count : (g f : Given) (last : Rows) → Counts g f last → 1 ≤ length last.seen
+some_count : (g f : Option ℕ) (last : Rows) → Counts g f last → 1 ≤ length last.seen
 some_count g f last (counted _ c) = omega arith
 some_count g f last (said n e c s) = omega arith
 
-start_count : (g f : Given) (last : Rows) → Counts g f last → given_or 0 f ≤ last.largest → given_or 0 f < length last.seen
+start_count : (g f : Option ℕ) (last : Rows) → Counts g f last → given_or 0 f ≤ last.largest → given_or 0 f < length last.seen
 start_count g f last (counted _ c) h = omega arith
 start_count g f last (said n e c s) h = omega arith
 
-value_is : {n m : ℕ} → Value n ≡ Value m → n ≡ m
+value_is : {n m : ℕ} → Some n ≡ Some m → n ≡ m
 value_is e = ap (given_or 0) e
 
-no_both : {A : Type 0} (g : Given) (n : ℕ) → g ≡ Not → g ≡ Value n → A
+no_both : {A : Type 0} (g : Option ℕ) (n : ℕ) → g ≡ None → g ≡ Some n → A
 no_both g n a b = no_given (ap is_given (sym a ∙ b))
 
-count_value : (g f : Given) (last : Rows) → Counts g f last → (m : ℕ) → g ≡ Value m → length last.seen ≡ m
+count_value : (g f : Option ℕ) (last : Rows) → Counts g f last → (m : ℕ) → g ≡ Some m → length last.seen ≡ m
 count_value g f last (counted q _) m e = no_both g m q e
 count_value g f last (said n q c _) m e = c ∙ value_is (sym q ∙ e)
 

@@ -1,5 +1,6 @@
 -- What the items ahead must give, behind what was read: the subset's conditions on all items, at any place of the header. Items fit one behind the other
 -- exactly if this holds (`ahead_takes`, `takes_ahead`). Assumes nothing.
+use Rattle.std.specs.Prelude.{Option, Some, None}
 use mathlib.Core.Bool.{Bool, true, false, false≢true}
 use mathlib.Core.List.{List, [], ◌∷◌}
 use mathlib.Core.Path.{◌≡◌, refl, sym, ap, subst, ◌∙◌}
@@ -7,11 +8,10 @@ use Prim.Native.Nat.{ℕ, suc, ◌+◌, ◌≤◌, ◌<◌}
 use native.Mathlib.Omega.{arith}
 use borrow.Author.Tests.{lt-leb, leb-false}
 use lib.ListN.{length}
+use Rattle.std.specs.Prelude.{Option, Some, None}
 use Rattle.table.specs.declared.Acceptance.{Acceptance}
 use Rattle.hoa_tokens.specs.declared.Word.{Word}
 use Rattle.hoa_formula.specs.Cond.{Cond}
-use Rattle.hoa_step.specs.declared.Given.{Given}
-use Rattle.hoa_step.specs.declared.Given.TheVariants.{Not, Value}
 use Rattle.hoa_step.specs.Given.{is_given, given_or, not_below, not_above}
 use Rattle.job_text.specs.Job.{most_job_states}
 use Rattle.hoa_standard.specs.Standard.{most_pairs}
@@ -40,10 +40,10 @@ use Rattle.hoa_grammar.proofs.Heads.{AllLimits}
 
 -- what the header gives in the end
 pub record Goal : Type 0 where
-  pub states : Given
-  pub start : Given
-  pub props : Given
-  pub marks : Given
+  pub states : Option ℕ
+  pub start : Option ℕ
+  pub props : Option ℕ
+  pub marks : Option ℕ
   pub condition : Acceptance
   pub needs : List ℕ
 
@@ -51,9 +51,9 @@ abbrev pub goal_of : Head → Goal
 goal_of h = record { states = h.states; start = h.start; props = h.props; marks = h.marks; condition = h.condition; needs = h.needs }
 
 -- what was given so far, and what the items ahead give, come to f: nothing, once ahead, or once before
-pub data Settles {A : Type 0} (gives : A → Type 0) (g : Given) (xs : List A) (f : Given) : Type 0 where
-  nowhere : g ≡ Not → xs ≡ [] → f ≡ Not → Settles gives g xs f
-  ahead : (x : A) → g ≡ Not → xs ≡ x ∷ [] → gives x → Settles gives g xs f
+pub data Settles {A : Type 0} (gives : A → Type 0) (g : Option ℕ) (xs : List A) (f : Option ℕ) : Type 0 where
+  nowhere : g ≡ None → xs ≡ [] → f ≡ None → Settles gives g xs f
+  ahead : (x : A) → g ≡ None → xs ≡ x ∷ [] → gives x → Settles gives g xs f
   before : g ≡ f → is_given g ≡ true → xs ≡ [] → Settles gives g xs f
 
 -- at most once, before or ahead
@@ -62,31 +62,31 @@ count true = 1
 count false = 0
 
 -- the start is the one INT
-abbrev pub StartIs : Given → Conj → Type 0
-StartIs f (one s) = f ≡ Value s
+abbrev pub StartIs : Option ℕ → Conj → Type 0
+StartIs f (one s) = f ≡ Some s
 StartIs f (more s c) = ⊥
 
 -- where a formula came, it is the one that the header has in the end
-abbrev MarksKept : Given → Acceptance → List ℕ → Goal → Type 0
-MarksKept Not condition needs f = Unit {0}
-MarksKept (Value c) condition needs f = (condition ≡ f.condition) × (needs ≡ f.needs)
+abbrev MarksKept : Option ℕ → Acceptance → List ℕ → Goal → Type 0
+MarksKept None condition needs f = Unit {0}
+MarksKept (Some c) condition needs f = (condition ≡ f.condition) × (needs ≡ f.needs)
 
 pub record Ahead (h : Head) (is : List Item) (f : Goal) : Type 0 where
   pub fit : Each ItemFits is
-  pub states_settle : Settles (λ n. f.states ≡ Value n) h.states (given of_states is) f.states
+  pub states_settle : Settles (λ n. f.states ≡ Some n) h.states (given of_states is) f.states
   pub start_settles : Settles (StartIs f.start) h.start (given of_start is) f.start
-  pub props_settle : Settles (λ ns. f.props ≡ Value (length ns)) h.props (given of_props is) f.props
-  pub marks_settle : Settles (λ x. (f.marks ≡ Value x.marks) × StandardAs x f.condition f.needs) h.marks (given of_acceptance is) f.marks
+  pub props_settle : Settles (λ ns. f.props ≡ Some (length ns)) h.props (given of_props is) f.props
+  pub marks_settle : Settles (λ x. (f.marks ≡ Some x.marks) × StandardAs x f.condition f.needs) h.marks (given of_acceptance is) f.marks
   pub marks_kept : MarksKept h.marks h.condition h.needs f
   pub acc_name_once : count h.hint + length (given of_acc_name is) ≤ 1
   pub tool_once : count h.tool + length (given of_tool is) ≤ 1
   pub name_once : count h.name + length (given of_name is) ≤ 1
 
 -- the numbers agree where both are given: "n at least 1; s below n"
-abbrev pub Agree : Given → Given → Type 0
-Agree Not s = Unit {0}
-Agree (Value n) Not = 0 < n
-Agree (Value n) (Value s) = s < n
+abbrev pub Agree : Option ℕ → Option ℕ → Type 0
+Agree None s = Unit {0}
+Agree (Some n) None = 0 < n
+Agree (Some n) (Some s) = s < n
 
 -- ---- lists and truth values
 
@@ -111,20 +111,20 @@ cons_head {x = x} e = ap (head_or x) e
 cons_tail : {A : Type 0} {x y : A} {xs ys : List A} → x ∷ xs ≡ y ∷ ys → xs ≡ ys
 cons_tail e = ap tail_of e
 
-not_given : (g : Given) → g ≡ Not → is_given g ≡ false
+not_given : (g : Option ℕ) → g ≡ None → is_given g ≡ false
 not_given g e = rw e refl
 
-none_given : (g : Given) → is_given g ≡ false → g ≡ Not
-none_given Not e = refl
-none_given (Value n) e = absurd (false≢true (sym e))
+none_given : (g : Option ℕ) → is_given g ≡ false → g ≡ None
+none_given None e = refl
+none_given (Some n) e = absurd (false≢true (sym e))
 
 -- a sort that is met ahead was not met before, is met once, and gives what is asked
-pub record Met {A : Type 0} (gives : A → Type 0) (g : Given) (x : A) (xs : List A) : Type 0 where
-  pub new : g ≡ Not
+pub record Met {A : Type 0} (gives : A → Type 0) (g : Option ℕ) (x : A) (xs : List A) : Type 0 where
+  pub new : g ≡ None
   pub last : xs ≡ []
   pub gives_it : gives x
 
-met : {A : Type 0} {gives : A → Type 0} {g f : Given} (x : A) (xs : List A) → Settles gives g (x ∷ xs) f → Met gives g x xs
+met : {A : Type 0} {gives : A → Type 0} {g f : Option ℕ} (x : A) (xs : List A) → Settles gives g (x ∷ xs) f → Met gives g x xs
 met x xs (nowhere _ e _) = cons_nil e
 met {gives = gives} x xs (ahead y n e h) = record { new = n; last = cons_tail e; gives_it = subst gives (sym (cons_head e)) h }
 met x xs (before _ _ e) = cons_nil e
@@ -141,29 +141,29 @@ flag_set false n l = omega arith
 -- ---- from all to one behind the other
 
 -- the numbers that are given agree with those that are given in the end
-above_start : (g f fs : Given) (n : ℕ) → fs ≡ Value n → (is_given g ≡ true → g ≡ f) → Agree fs f → not_above n g ≡ false
-above_start Not f fs n q k a = refl
-above_start (Value s) f fs n q k a = lt-leb n s (agreed fs f n s q (k refl) a)
+above_start : (g f fs : Option ℕ) (n : ℕ) → fs ≡ Some n → (is_given g ≡ true → g ≡ f) → Agree fs f → not_above n g ≡ false
+above_start None f fs n q k a = refl
+above_start (Some s) f fs n q k a = lt-leb n s (agreed fs f n s q (k refl) a)
   where
-    agreed : (fs f : Given) (n s : ℕ) → fs ≡ Value n → Value s ≡ f → Agree fs f → s < n
-    agreed fs f n s q k a = subst (λ (x : Given). Agree (Value n) x) (sym k) (subst (λ (x : Given). Agree x f) q a)
+    agreed : (fs f : Option ℕ) (n s : ℕ) → fs ≡ Some n → Some s ≡ f → Agree fs f → s < n
+    agreed fs f n s q k a = subst (λ (x : Option ℕ). Agree (Some n) x) (sym k) (subst (λ (x : Option ℕ). Agree x f) q a)
 
-below_states : (g f fs : Given) (s : ℕ) → f ≡ Value s → (is_given g ≡ true → g ≡ fs) → Agree fs f → not_below s g ≡ false
-below_states Not f fs s q k a = refl
-below_states (Value n) f fs s q k a = lt-leb n s (agreed fs f n s q (k refl) a)
+below_states : (g f fs : Option ℕ) (s : ℕ) → f ≡ Some s → (is_given g ≡ true → g ≡ fs) → Agree fs f → not_below s g ≡ false
+below_states None f fs s q k a = refl
+below_states (Some n) f fs s q k a = lt-leb n s (agreed fs f n s q (k refl) a)
   where
-    agreed : (fs f : Given) (n s : ℕ) → f ≡ Value s → Value n ≡ fs → Agree fs f → s < n
-    agreed fs f n s q k a = subst (λ (x : Given). Agree (Value n) x) q (subst (λ (x : Given). Agree x f) (sym k) a)
+    agreed : (fs f : Option ℕ) (n s : ℕ) → f ≡ Some s → Some n ≡ fs → Agree fs f → s < n
+    agreed fs f n s q k a = subst (λ (x : Option ℕ). Agree (Some n) x) q (subst (λ (x : Option ℕ). Agree x f) (sym k) a)
 
-some_states : (fs f : Given) (n : ℕ) → fs ≡ Value n → Agree fs f → 0 < n
-some_states fs f n q a = positive f (subst (λ (x : Given). Agree x f) q a)
+some_states : (fs f : Option ℕ) (n : ℕ) → fs ≡ Some n → Agree fs f → 0 < n
+some_states fs f n q a = positive f (subst (λ (x : Option ℕ). Agree x f) q a)
   where
-    positive : (f : Given) → Agree (Value n) f → 0 < n
-    positive Not a = a
-    positive (Value s) a = omega arith
+    positive : (f : Option ℕ) → Agree (Some n) f → 0 < n
+    positive None a = a
+    positive (Some s) a = omega arith
 
 -- what was given before stays
-kept_given : {A : Type 0} {gives : A → Type 0} {g f : Given} {xs : List A} → Settles gives g xs f → is_given g ≡ true → g ≡ f
+kept_given : {A : Type 0} {gives : A → Type 0} {g f : Option ℕ} {xs : List A} → Settles gives g xs f → is_given g ≡ true → g ≡ f
 kept_given (nowhere n _ _) e = absurd (false≢true (sym (not_given _ n) ∙ e))
 kept_given (ahead x n _ _) e = absurd (false≢true (sym (not_given _ n) ∙ e))
 kept_given (before q _ _) e = q
@@ -188,19 +188,19 @@ unfolding AllLimits
 taken_more t l r = record { last = r.last; takes = takes_more t r.takes; reached = r.reached; limits = λ g. (l g, r.limits g) }
 
 -- a number that is given in the end
-given_is : (g : Given) (n : ℕ) → g ≡ Value n → n ≡ given_or 0 g
+given_is : (g : Option ℕ) (n : ℕ) → g ≡ Some n → n ≡ given_or 0 g
 given_is g n e = sym (ap (given_or 0) e)
 
 -- nothing is ahead any more
-settled : {A : Type 0} {gives : A → Type 0} {g f : Given} → Settles gives g [] f → g ≡ f
+settled : {A : Type 0} {gives : A → Type 0} {g f : Option ℕ} → Settles gives g [] f → g ≡ f
 settled (nowhere a _ b) = a ∙ sym b
 settled (ahead x _ e _) = cons_nil (sym e)
 settled (before q _ _) = q
 
-settled_marks : (m : Given) (condition : Acceptance) (needs : List ℕ) (f : Goal) → is_given m ≡ true → MarksKept m condition needs f
+settled_marks : (m : Option ℕ) (condition : Acceptance) (needs : List ℕ) (f : Goal) → is_given m ≡ true → MarksKept m condition needs f
     → (condition ≡ f.condition) × (needs ≡ f.needs)
-settled_marks Not condition needs f g k = absurd (false≢true g)
-settled_marks (Value c) condition needs f g k = k
+settled_marks None condition needs f g k = absurd (false≢true g)
+settled_marks (Some c) condition needs f g k = k
 
 none_ahead : (h : Head) (f : Goal) → Ahead h [] f → is_given f.marks ≡ true → goal_of h ≡ f
 unfolding given
@@ -300,7 +300,7 @@ ahead_takes (props k ns ∷ is) h f agree g a =
       fit = tail_fit a.fit;
       states_settle = a.states_settle;
       start_settles = a.start_settles;
-      props_settle = before (sym (m.gives_it ∙ ap Value x.0)) refl m.last;
+      props_settle = before (sym (m.gives_it ∙ ap Some x.0)) refl m.last;
       marks_settle = a.marks_settle;
       marks_kept = a.marks_kept;
       acc_name_once = a.acc_name_once;
@@ -379,26 +379,26 @@ ahead_takes (lower es ∷ is) h f agree g a = taken_more (takes_lower es) (λ _.
 
 -- ---- from one behind the other to all
 
-no_value : {C : Type 0} {n : ℕ} → Value n ≡ Not → C
+no_value : {C : Type 0} {n : ℕ} → Some n ≡ None → C
 no_value e = absurd (false≢true (sym (ap is_given e)))
 
 -- what is given is settled, and nothing more is ahead
-unsettle : {A : Type 0} {gives : A → Type 0} {n : ℕ} {f : Given} {xs : List A} → Settles gives (Value n) xs f → (Value n ≡ f) × (xs ≡ [])
+unsettle : {A : Type 0} {gives : A → Type 0} {n : ℕ} {f : Option ℕ} {xs : List A} → Settles gives (Some n) xs f → (Some n ≡ f) × (xs ≡ [])
 unsettle (nowhere e _ _) = no_value e
 unsettle (ahead x e _ _) = no_value e
 unsettle (before q _ e) = (q, e)
 
 -- one that is met, and nothing more ahead
-meet : {A : Type 0} {gives : A → Type 0} {g f : Given} (x : A) (xs : List A) → is_given g ≡ false → xs ≡ [] → gives x → Settles gives g (x ∷ xs) f
+meet : {A : Type 0} {gives : A → Type 0} {g f : Option ℕ} (x : A) (xs : List A) → is_given g ≡ false → xs ≡ [] → gives x → Settles gives g (x ∷ xs) f
 meet x xs g e h = ahead x (none_given _ g) (ap (λ ys. x ∷ ys) e) h
 
-settle_end : {A : Type 0} {gives : A → Type 0} (g : Given) → Settles gives g [] g
-settle_end Not = nowhere refl refl refl
-settle_end (Value n) = before refl refl refl
+settle_end : {A : Type 0} {gives : A → Type 0} (g : Option ℕ) → Settles gives g [] g
+settle_end None = nowhere refl refl refl
+settle_end (Some n) = before refl refl refl
 
-kept_end : (h : Head) (m : Given) → MarksKept m h.condition h.needs (goal_of h)
-kept_end h Not = tt
-kept_end h (Value c) = (refl, refl)
+kept_end : (h : Head) (m : Option ℕ) → MarksKept m h.condition h.needs (goal_of h)
+kept_end h None = tt
+kept_end h (Some c) = (refl, refl)
 
 flag_end : (b : Bool) → count b + 0 ≤ 1
 flag_end true = omega arith
@@ -430,9 +430,9 @@ ahead_end h =
     }
 
 -- nothing was known of the formula where none was given
-no_marks : (m : Given) (condition : Acceptance) (needs : List ℕ) (f : Goal) → is_given m ≡ false → MarksKept m condition needs f
-no_marks Not condition needs f e = tt
-no_marks (Value c) condition needs f e = absurd (false≢true (sym e))
+no_marks : (m : Option ℕ) (condition : Acceptance) (needs : List ℕ) (f : Goal) → is_given m ≡ false → MarksKept m condition needs f
+no_marks None condition needs f e = tt
+no_marks (Some c) condition needs f e = absurd (false≢true (sym e))
 
 -- one item in front
 ahead_more : {h h' : Head} {i : Item} {is : List Item} (f : Goal) → Takes h i h' → Ahead h' is f → Ahead h (i ∷ is) f
@@ -469,7 +469,7 @@ ahead_more {h = h} {is = is} f (takes_props k ns g l d) r =
       fit = each_more {x = props k ns} (l, d) r.fit;
       states_settle = r.states_settle;
       start_settles = r.start_settles;
-      props_settle = meet ns (given of_props is) g u.1 (sym u.0 ∙ ap Value (sym l));
+      props_settle = meet ns (given of_props is) g u.1 (sym u.0 ∙ ap Some (sym l));
       marks_settle = r.marks_settle;
       marks_kept = r.marks_kept;
       acc_name_once = r.acc_name_once;
@@ -556,13 +556,13 @@ takes_ahead h h' _ (takes_none e) = subst (λ (x : Head). Ahead h [] (goal_of x)
 takes_ahead h h' _ (takes_more t ts) = ahead_more (goal_of h') t (takes_ahead _ h' _ ts)
 
 -- and the numbers agree
-agree_states : (g f : Given) (n : ℕ) → 0 < n → not_above n f ≡ false → Agree (Value n) f
-agree_states g Not n p a = p
-agree_states g (Value s) n p a = leb-false n s a
+agree_states : (g f : Option ℕ) (n : ℕ) → 0 < n → not_above n f ≡ false → Agree (Some n) f
+agree_states g None n p a = p
+agree_states g (Some s) n p a = leb-false n s a
 
-agree_start : (g : Given) (s : ℕ) → not_below s g ≡ false → Agree g (Value s)
-agree_start Not s a = tt
-agree_start (Value n) s a = leb-false n s a
+agree_start : (g : Option ℕ) (s : ℕ) → not_below s g ≡ false → Agree g (Some s)
+agree_start None s a = tt
+agree_start (Some n) s a = leb-false n s a
 
 agree_one : {h h' : Head} {i : Item} → Takes h i h' → Agree h.states h.start → Agree h'.states h'.start
 agree_one {h = h} (takes_states n g p a) r = agree_states h.states h.start n p a

@@ -1,4 +1,5 @@
 -- Every text of the subset within the limits is read, as what it says (`read_all`). Assumes nothing.
+use Rattle.std.specs.Prelude.{Option, Some, None}
 use mathlib.Core.Bool.{false}
 use mathlib.Core.List.{List, [], ◌∷◌}
 use mathlib.Core.Path.{◌≡◌, refl, sym, ap, subst, ◌∙◌}
@@ -6,14 +7,13 @@ use Prim.Native.Nat.{ℕ, ◌≤◌, ◌<◌, zero-le}
 use native.Mathlib.Omega.{arith}
 use borrow.Author.Tests.{le-ltb, lt-leb}
 use lib.ListN.{length}
+use Rattle.std.specs.Prelude.{Option, Some, None}
 use Rattle.job_text.specs.Job.{Job, job, most_job_states}
 use Rattle.hoa_tokens.specs.declared.Word.{Word}
 use Rattle.hoa_tokens.specs.declared.Word.TheVariants as word_is
 use Rattle.hoa_tokens.specs.declared.Header.TheVariants as header_is
 use Rattle.hoa_tokens.specs.Token.{Token, word, header, body, end, finish}
 use Rattle.hoa_tokens.specs.Stream.{Placed, tokens_at}
-use Rattle.hoa_step.specs.declared.Given.{Given}
-use Rattle.hoa_step.specs.declared.Given.TheVariants.{Not, Value}
 use Rattle.hoa_step.specs.Given.{is_given, given_or, not_below}
 use Rattle.hoa_step.specs.Machine.{done_at, run}
 use Rattle.hoa_value.specs.declared.Head.{Head}
@@ -42,21 +42,21 @@ within l (limit n ts e) = absurd (n l)
 
 -- ---- what the items come to
 
-abbrev states_given : List ℕ → Given
-states_given [] = Not
-states_given (n ∷ ns) = Value n
+abbrev states_given : List ℕ → Option ℕ
+states_given [] = None
+states_given (n ∷ ns) = Some n
 
-abbrev props_given : List (List (List ℕ)) → Given
-props_given [] = Not
-props_given (ns ∷ nss) = Value (length ns)
+abbrev props_given : List (List (List ℕ)) → Option ℕ
+props_given [] = None
+props_given (ns ∷ nss) = Some (length ns)
 
 -- a list of at most one
-one_states : (xs : List ℕ) → length xs ≤ 1 → Settles (λ n. states_given xs ≡ Value n) Not xs (states_given xs)
+one_states : (xs : List ℕ) → length xs ≤ 1 → Settles (λ n. states_given xs ≡ Some n) None xs (states_given xs)
 one_states [] l = nowhere refl refl refl
 one_states (n ∷ []) l = ahead n refl refl refl
 one_states (n ∷ (m ∷ xs)) l = absurd (omega arith)
 
-one_props : (xs : List (List (List ℕ))) → length xs ≤ 1 → Settles (λ ns. props_given xs ≡ Value (length ns)) Not xs (props_given xs)
+one_props : (xs : List (List (List ℕ))) → length xs ≤ 1 → Settles (λ ns. props_given xs ≡ Some (length ns)) None xs (props_given xs)
 one_props [] l = nowhere refl refl refl
 one_props (ns ∷ []) l = ahead ns refl refl refl
 one_props (n ∷ (m ∷ xs)) l = absurd (omega arith)
@@ -89,9 +89,9 @@ module _ (d : Doc) (j : Job) (s : Says d j) (m : Limited d j s) where
   goal =
       record {
         states = states_given (given of_states d.items);
-        start = Value j.start;
+        start = Some j.start;
         props = props_given (given of_props d.items);
-        marks = Value s.formula.marks;
+        marks = Some s.formula.marks;
         condition = j.condition;
         needs = j.needs;
       }
@@ -101,7 +101,7 @@ module _ (d : Doc) (j : Job) (s : Says d j) (m : Limited d j s) where
   states_are [] q e l = refl
   states_are (n ∷ xs) q e l = lt-leb n q (omega arith)
 
-  agree_by : (xs : List ℕ) → j.states ≡ states_of xs d.rows → Agree (states_given xs) (Value j.start)
+  agree_by : (xs : List ℕ) → j.states ≡ states_of xs d.rows → Agree (states_given xs) (Some j.start)
   agree_by [] e = tt
   agree_by (n ∷ xs) e = omega (arith, s.start_below)
 

@@ -3,7 +3,7 @@ use mathlib.Core.Path.{◌≡◌, refl, ◌∙◌}
 use mathlib.Core.List.{List}
 use Prim.Native.Nat.{ℕ}
 use native.Mathlib.Omega.{arith}
-use borrow.Author.Tests.{ne_eqb}
+use Rattle.std.specs.Prelude.{Option, Some, None, Ok, Err}
 use Rattle.hoa_tokens.specs.declared.Kind.{Kind}
 use Rattle.hoa_tokens.specs.declared.Kind.TheVariants as kind_is
 use Rattle.hoa_tokens.specs.declared.Header.{Header}
@@ -17,7 +17,6 @@ use Rattle.hoa_step.specs.Machine.{run}
 use Rattle.hoa_step.specs.Wanted.{Next}
 use Rattle.hoa_step.proofs.Runs.{first_goes, first_wrong}
 use Rattle.hoa_step.proofs.Wants.{found_next}
-use Rattle.hoa_value.specs.declared.hint.Passed.TheVariants as passed
 use Rattle.hoa_value.specs.Head.{blank}
 use Rattle.hoa_value.specs.Heading.{opening, version, items, head_step, opening_header, on_opening, version_word, on_version}
 use Rattle.hoa_head.specs.inner.Openings.{opening_fault, opening_kind, version_fault, version_kind}
@@ -76,45 +75,45 @@ on_version_lem text a b kind_is.Finish = refl
 on_version_lem text a b kind_is.Bad = refl
 
 -- the text's end is at fault at both places
-opening_no_end : (k : Kind) → opening_kind k ≡ 0 → k ≡ kind_is.Finish → ⊥
-opening_no_end k e q = let z : ◌≡◌ {A = ℕ} 40 0 = rw q at e in omega arith
+opening_no_end : (k : Kind) → opening_kind k ≡ None → k ≡ kind_is.Finish → ⊥
+opening_no_end k e q = let z : ◌≡◌ {A = Option ℕ} (Some 40) None = rw q at e in cc
 
-version_no_end : (k : Kind) → version_kind k ≡ 0 → k ≡ kind_is.Finish → ⊥
-version_no_end k e q = let z : ◌≡◌ {A = ℕ} 40 0 = rw q at e in omega arith
+version_no_end : (k : Kind) → version_kind k ≡ None → k ≡ kind_is.Finish → ⊥
+version_no_end k e q = let z : ◌≡◌ {A = Option ℕ} (Some 40) None = rw q at e in cc
 
 module _ (text : List ℕ) (f : Found) (h : TokenAt text 0 f) where
-  pub opening_wrong : (n : ℕ) → n ≡ opening_kind f.kind → (n ≡ 0 → ⊥) → OpeningRead text (passed.Refused n f.first)
+  pub opening_wrong : (n : ℕ) → opening_kind f.kind ≡ Some n → OpeningRead text (Err (record { number = n; place = f.first }))
   unfolding head_step
-  opening_wrong n e w =
+  opening_wrong n e =
       record {
-        says = first_wrong head_step text 0 (tokens_next text 0 f h) n (on_opening_lem text f.first f.next f.kind ∙ rw (← e, ne_eqb n 0 w));
+        says = first_wrong head_step text 0 (tokens_next text 0 f h) n (on_opening_lem text f.first f.next f.kind ∙ rw e);
         stays = omega (arith, h.behind_first, h.within (omega arith));
       }
 
-  opening_next : opening_kind f.kind ≡ 0 → Next text 0 f.first f.next (token_of text f.first f.next f.kind)
+  opening_next : opening_kind f.kind ≡ None → Next text 0 f.first f.next (token_of text f.first f.next f.kind)
   opening_next e =
       let k = opening_no_end f.kind e in
       found_next f h _ refl k (unless_kind text f.first f.next f.kind (tokens_at text f.next) k)
 
-  opening_goes : opening_kind f.kind ≡ 0 → run head_step (tokens_at text 0) opening ≡ run head_step (tokens_at text f.next) version
+  opening_goes : opening_kind f.kind ≡ None → run head_step (tokens_at text 0) opening ≡ run head_step (tokens_at text f.next) version
   unfolding head_step
   opening_goes e = first_goes head_step text 0 (opening_next e).is version (on_opening_lem text f.first f.next f.kind ∙ rw e)
 
-  module _ (o : opening_kind f.kind ≡ 0) (g : Found) (i : TokenAt text f.next g) where
-    pub version_wrong : (n : ℕ) → n ≡ version_kind g.kind → (n ≡ 0 → ⊥) → OpeningRead text (passed.Refused n g.first)
+  module _ (o : opening_kind f.kind ≡ None) (g : Found) (i : TokenAt text f.next g) where
+    pub version_wrong : (n : ℕ) → version_kind g.kind ≡ Some n → OpeningRead text (Err (record { number = n; place = g.first }))
     unfolding head_step
-    version_wrong n e w =
+    version_wrong n e =
         record {
-          says = opening_goes o ∙ first_wrong head_step text f.next (tokens_next text f.next g i) n (on_version_lem text g.first g.next g.kind ∙ rw (← e, ne_eqb n 0 w));
+          says = opening_goes o ∙ first_wrong head_step text f.next (tokens_next text f.next g i) n (on_version_lem text g.first g.next g.kind ∙ rw e);
           stays = omega (arith, i.behind_first, i.within (opening_next o).within);
         }
 
-    version_next : version_kind g.kind ≡ 0 → Next text f.next g.first g.next (token_of text g.first g.next g.kind)
+    version_next : version_kind g.kind ≡ None → Next text f.next g.first g.next (token_of text g.first g.next g.kind)
     version_next e =
         let k = version_no_end g.kind e in
         found_next g i _ refl k (unless_kind text g.first g.next g.kind (tokens_at text g.next) k)
 
-    pub version_goes : version_kind g.kind ≡ 0 → OpeningRead text (passed.Behind g.next)
+    pub version_goes : version_kind g.kind ≡ None → OpeningRead text (Ok g.next)
     unfolding head_step
     version_goes e =
         record {

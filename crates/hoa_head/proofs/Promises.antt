@@ -1,10 +1,12 @@
 -- What the promise means: it allows one header and one refusal (`one_header`), and the header of a text always ends (`never_cut`). Assumes nothing.
-use mathlib.Core.Path.{◌≡◌, refl, sym, ◌∙◌}
+use mathlib.Core.Path.{◌≡◌, refl, sym, ap, ◌∙◌}
 use mathlib.Core.List.{List}
 use Prim.Native.Nat.{ℕ, zero, suc}
 use native.Mathlib.Omega.{arith}
 use lib.Dec.{ltb}
 use lib.ListN.{length}
+use Rattle.std.specs.Prelude.{Result, Ok, Err}
+use Rattle.hoa_tokens.specs.declared.BadToken.{BadToken}
 use Rattle.hoa_tokens.specs.Token.{finish}
 use Rattle.hoa_tokens.specs.Stream.{tokens_at}
 use Rattle.hoa_tokens.proofs.Sizes.{by_test}
@@ -14,8 +16,6 @@ use Rattle.hoa_standard.specs.Standard.{standard, short}
 use Rattle.hoa_step.specs.Machine.{go, wrong, End, done_at, wrong_at, cut, wants_int, wants_text}
 use Rattle.hoa_step.proofs.Finishes as finishes
 use Rattle.hoa_value.specs.declared.Head.{Head}
-use Rattle.hoa_head.specs.declared.HeadEnd.{HeadEnd}
-use Rattle.hoa_head.specs.declared.HeadEnd.TheVariants.{Body, Refused}
 use Rattle.hoa_head.specs.declared.HeadRead.{HeadRead}
 use Rattle.hoa_value.specs.Heading.{HeadState, opening, version, items, states_int, start_int, props_int, marks_int, start_more, names, in_formula}
 use Rattle.hoa_value.specs.Heading.{acc_name, tool_text, tool_more, name_text, hints}
@@ -24,35 +24,44 @@ use Rattle.hoa_head.specs.Headed.{Headed, Ends, head_end}
 
 -- ---- two results that are allowed
 
--- both ends say the same: the same tokens are left, or the same token is refused
-abbrev pub SameEnd : List ℕ → HeadEnd → HeadEnd → Type 0
-SameEnd text (Body a) (Body b) = tokens_at text a ≡ tokens_at text b
-SameEnd text (Body a) (Refused n p) = ⊥
-SameEnd text (Refused n p) (Body b) = ⊥
-SameEnd text (Refused n p) (Refused m q) = (n ≡ m) × (p ≡ q)
+-- both say the same: the same header, and the same tokens are left, or the same token is refused
+abbrev pub SameEnd : List ℕ → Result HeadRead BadToken → Result HeadRead BadToken → Type 0
+SameEnd text (Ok a) (Ok b) = (a.head ≡ b.head) × (tokens_at text a.next ≡ tokens_at text b.next)
+SameEnd text (Ok a) (Err d) = ⊥
+SameEnd text (Err e) (Ok b) = ⊥
+SameEnd text (Err e) (Err d) = e ≡ d
 
-two_ends : (text : List ℕ) (e : End Head) (h k : Head) (a b : HeadEnd) → Ends text e h a → Ends text e k b → (h ≡ k) × SameEnd text a b
-two_ends text e h k (Body a) (Body b) x y =
-    let q : done_at h (tokens_at text a) ≡ done_at k (tokens_at text b) = sym x.0 ∙ y.0 in
+same_bad : (e d : BadToken) → e.number ≡ d.number → e.place ≡ d.place → e ≡ d
+same_bad e d p q = λ i. record { number = p i; place = q i }
+
+two_ends : (text : List ℕ) (e : End Head) (r s : Result HeadRead BadToken) → Ends text e r → Ends text e s → SameEnd text r s
+two_ends text e (Ok a) (Ok b) x y =
+    let q : done_at a.head (tokens_at text a.next) ≡ done_at b.head (tokens_at text b.next) = sym x.0 ∙ y.0 in
     (cc, cc)
-two_ends text e h k (Body a) (Refused n p) x y =
-    absurd (let q : done_at h (tokens_at text a) ≡ wrong_at n p = sym x.0 ∙ y.0 in let z : ◌≡◌ {A = ℕ} 0 1 = cc in omega arith)
-two_ends text e h k (Refused n p) (Body b) x y =
-    absurd (let q : done_at k (tokens_at text b) ≡ wrong_at n p = sym y.0 ∙ x.0 in let z : ◌≡◌ {A = ℕ} 0 1 = cc in omega arith)
-two_ends text e h k (Refused n p) (Refused m q) x y =
-    let g : ◌≡◌ {A = End Head} (wrong_at n p) (wrong_at m q) = sym x.0 ∙ y.0 in
-    (x.1.0 ∙ sym y.1.0, (cc, cc))
+two_ends text e (Ok a) (Err d) x y =
+    absurd (let q : done_at a.head (tokens_at text a.next) ≡ wrong_at d.number d.place = sym x.0 ∙ y.0 in let z : ◌≡◌ {A = ℕ} 0 1 = cc in omega arith)
+two_ends text e (Err d) (Ok b) x y =
+    absurd (let q : done_at b.head (tokens_at text b.next) ≡ wrong_at d.number d.place = sym y.0 ∙ x.0 in let z : ◌≡◌ {A = ℕ} 0 1 = cc in omega arith)
+two_ends text e (Err c) (Err d) x y =
+    let g : ◌≡◌ {A = End Head} (wrong_at c.number c.place) (wrong_at d.number d.place) = sym x.0 ∙ y.0 in
+    let p : c.number ≡ d.number = cc in
+    let q : c.place ≡ d.place = cc in
+    same_bad c d p q
 
 -- they have the same header, and say the same of what is behind it
-pub one_header : (text : List ℕ) (r s : HeadRead) → Headed text r → Headed text s → (r.head ≡ s.head) × SameEnd text r.end s.end
-one_header text r s a b = two_ends text (head_end text) r.head s.head r.end s.end a.says b.says
-
-both : (r s : HeadRead) → r.end ≡ s.end → r.head ≡ s.head → r ≡ s
-both r s p q = λ i. record { end = p i; head = q i }
+pub one_header : (text : List ℕ) (r s : Result HeadRead BadToken) → Headed text r → Headed text s → SameEnd text r s
+one_header text r s a b = two_ends text (head_end text) r s a.says b.says
 
 -- a refusal is one result, whole
-pub one_refusal : (text : List ℕ) (r s : HeadRead) (n p : ℕ) → Headed text r → Headed text s → r.end ≡ Refused n p → s.end ≡ Refused n p → r ≡ s
-one_refusal text r s n p a b e f = both r s (e ∙ sym f) (one_header text r s a b).0
+pub one_refusal : (text : List ℕ) (r s : Result HeadRead BadToken) (e : BadToken) → Headed text r → Headed text s → r ≡ Err e → r ≡ s
+one_refusal text r s e a b q = q ∙ refused s b
+  where
+    first : Headed text (Err e)
+    first = rw q at a
+
+    refused : (s : Result HeadRead BadToken) → Headed text s → Err e ≡ s
+    refused (Ok x) b = absurd (one_header text (Err e) (Ok x) first b)
+    refused (Err d) b = ap Err (one_header text (Err e) (Err d) first b)
 
 -- ---- the text's end is never admitted
 

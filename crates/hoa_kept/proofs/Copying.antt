@@ -1,110 +1,37 @@
 -- The kept edges by states: what the tables hold is what `sorted` says. Assumes nothing.
-use mathlib.Core.Path.{◌≡◌, refl, sym, ap, ◌∙◌}
-use mathlib.Core.List.{List, [], ◌∷◌, ◌++◌, map, append_assoc, append-nil, map-append}
+use mathlib.Core.Path.{◌≡◌, refl, ap, ◌∙◌}
+use mathlib.Core.List.{List, [], ◌∷◌, ◌++◌, map, map-append}
 use Prim.Native.Nat.{ℕ, zero, suc, ◌+◌, ◌-◌, ◌≤◌, ◌<◌}
 use native.Mathlib.Omega.{arith}
 use native.Mathlib.Numerals.{add-one}
 use borrow.Author.Tests.{eqb-true, leb-true, leb-false}
 use lib.Dec.{eqb, leb}
-use lib.ListN.{length, get_or, set, take, drop, replicate, length-append, length-take, length-drop, length-map, length-set}
-use lib.Seq.{take-suc, take-suc-set, take-append-le, drop-append-le, get_or-drop}
+use lib.ListN.{length, take, drop, replicate, length-append, length-take, length-drop, length-map, length-replicate}
+use lib.Seq.{take-append-le, drop-append-le}
+use borrow.Rule.Slice.PartMut.{put_mid}
+use Rattle.std.proofs.lemmas.Slice.{take-put_mid}
 use Rattle.hoa_tokens.proofs.Sizes.{by_test}
 use Rattle.job_text.specs.Value.{Edge, pad_to}
 use Rattle.job_text.specs.Job.{most_job_edges}
 use Rattle.hoa_kept.specs.Sorted.{leaving, sorted}
-use Rattle.hoa_kept.specs.inner.Copied.{Filled, between, CopyRoom, Copied, first_of, end_of, total, states_of, parts_of, Fitting, RowsCopied}
+use Rattle.hoa_kept.specs.inner.Copied.{between, first_of, end_of, total, states_of, parts_of, RowsCopied}
 
--- ---- one cell more
+-- ---- a part that is written over
 
-pub replicate_more : (n v : ℕ) → replicate (suc n) v ≡ replicate n v ++ (v ∷ [])
-replicate_more zero v = refl
-replicate_more (suc n) v = ap (λ (xs : List ℕ). v ∷ xs) (replicate_more n v)
+-- the cells m up to next become a value
+pub filled : (m next v : ℕ) (xs ys : List ℕ) → m ≤ next → next ≤ length xs → ys ≡ replicate (length (take (next - m) (drop m xs))) v
+    → take next (put_mid m (next - m) xs ys) ≡ take m xs ++ replicate (next - m) v
+filled m next v xs ys l h e =
+    let size : length (take (next - m) (drop m xs)) ≡ next - m = omega (arith, length-take (next - m) (drop m xs), length-drop m xs) in
+    let is : ys ≡ replicate (next - m) v = e ∙ rw size in
+    rw is (take-put_mid m (next - m) xs (replicate (next - m) v) next (omega (arith, length-replicate (next - m) v)) (omega arith))
 
--- what is filled so far: i cells
-abbrev pub FillAt : ℕ → ℕ → List ℕ → List ℕ → ℕ → Type 0
-FillAt first value cells₀ cells i = take i cells ≡ take first cells₀ ++ replicate (i - first) value
-
-pub fill_none : (first value : ℕ) (cells : List ℕ) → FillAt first value cells cells first
-fill_none first value cells =
-    let z : first - first ≡ 0 = omega arith in
-    rw (z, append-nil)
-
-pub fill_more : (first value : ℕ) (cells₀ cells : List ℕ) (i : ℕ) → first ≤ i → i < length cells → FillAt first value cells₀ cells i
-    → FillAt first value cells₀ (set cells i value) (i + 1)
-fill_more first value cells₀ cells i f l h =
-    let z : i + 1 - first ≡ suc (i - first) = omega arith in
-    rw (z, add-one, take-suc-set cells i value l, h, replicate_more (i - first) value, append_assoc)
-
--- what is copied so far: up to index i of the source, into the cells up to k
-abbrev pub CopyAt : ℕ → ℕ → List ℕ → List ℕ → List ℕ → ℕ → ℕ → Type 0
-CopyAt at first source cells₀ cells i k = take k cells ≡ take at cells₀ ++ between first i source
-
-pub copy_none : (at first : ℕ) (source cells : List ℕ) → CopyAt at first source cells cells first at
-copy_none at first source cells =
-    let z : first - first ≡ 0 = omega arith in
-    rw (z, append-nil)
-
-between_more : (first i : ℕ) (xs : List ℕ) → first ≤ i → i < length xs → between first (i + 1) xs ≡ between first i xs ++ (get_or xs i 0 ∷ [])
-between_more first i xs f l =
-    let z : i + 1 - first ≡ suc (i - first) = omega arith in
-    let y : first + (i - first) ≡ i = omega arith in
-    rw (z, take-suc (drop first xs) (i - first) 0 (omega (arith, length-drop first xs)), get_or-drop, y)
-
-pub copy_more : (at first : ℕ) (source cells₀ cells : List ℕ) (i k : ℕ) → first ≤ i → i < length source → k < length cells
-    → CopyAt at first source cells₀ cells i k → CopyAt at first source cells₀ (set cells k (get_or source i 0)) (i + 1) (k + 1)
-copy_more at first source cells₀ cells i k f l m h =
-    rw (between_more first i source f l, add-one, take-suc-set cells k (get_or source i 0) m, h, append_assoc)
-
--- what holds while cells are filled, and while they are copied
-pub record Filling (first end value : ℕ) (cells₀ cells : List ℕ) (i : ℕ) : Type 0 where
-  pub low : first ≤ i
-  pub high : i ≤ end
-  pub size : length cells ≡ length cells₀
-  pub front : FillAt first value cells₀ cells i
-
-pub filling_none : (first end value : ℕ) (cells : List ℕ) → first ≤ end → Filling first end value cells cells first
-filling_none first end value cells l = record { low = omega arith; high = l; size = refl; front = fill_none first value cells }
-
-module _ (first end value : ℕ) (cells₀ cells : List ℕ) (i : ℕ) (h : Filling first end value cells₀ cells i) where
-  pub filling_more : i < end → end ≤ length cells₀ → Filling first end value cells₀ (set cells i value) (i + 1)
-  filling_more l m =
-      record {
-        low = omega (arith, h.low);
-        high = omega arith;
-        size = length-set cells i value ∙ h.size;
-        front = fill_more first value cells₀ cells i h.low (omega (arith, h.size)) h.front;
-      }
-
-  pub filling_done : end ≤ i → Filled first end value cells₀ cells
-  filling_done l = let e : i ≡ end = omega (arith, h.high) in record { front = rw e at h.front }
-
-pub record Pasting (at first end : ℕ) (source cells₀ cells : List ℕ) (i k : ℕ) : Type 0 where
-  pub low : first ≤ i
-  pub high : i ≤ end
-  pub offset : k ≡ at + (i - first)
-  pub size : length cells ≡ length cells₀
-  pub front : CopyAt at first source cells₀ cells i k
-
-pub pasting_none : (at first end : ℕ) (source cells : List ℕ) → first ≤ end → Pasting at first end source cells cells first at
-pasting_none at first end source cells l =
-    record { low = omega arith; high = l; offset = omega arith; size = refl; front = copy_none at first source cells }
-
-module _ (at first end : ℕ) (source cells₀ cells : List ℕ) (i k : ℕ) (h : Pasting at first end source cells₀ cells i k) where
-  pub pasting_more : i < end → CopyRoom at first end source cells₀ → Pasting at first end source cells₀ (set cells k (get_or source i 0)) (i + 1) (k + 1)
-  pasting_more l r =
-      record {
-        low = omega (arith, h.low);
-        high = omega arith;
-        offset = omega (arith, h.low, h.offset);
-        size = length-set cells k (get_or source i 0) ∙ h.size;
-        front = copy_more at first source cells₀ cells i k h.low (omega (arith, r.there)) (omega (arith, h.size, h.offset, h.low, r.room)) h.front;
-      }
-
-  pub pasting_done : end ≤ i → Copied at first end source cells₀ cells
-  pasting_done l =
-      let e : i ≡ end = omega (arith, h.high) in
-      let o : k ≡ at + (end - first) = omega (arith, h.offset, h.high) in
-      record { front = rw (e, o) at h.front }
+-- they become part of a list
+pub copied : (m next first end : ℕ) (xs source ys : List ℕ) → next ≡ m + (end - first) → next ≤ length xs → first ≤ end → end ≤ length source
+    → ys ≡ between first end source → take next (put_mid m (next - m) xs ys) ≡ take m xs ++ between first end source
+copied m next first end xs source ys n h l g e =
+    let size : length (between first end source) ≡ end - first = omega (arith, length-take (end - first) (drop first source), length-drop first source) in
+    rw e (take-put_mid m (next - m) xs (between first end source) next (omega arith) (omega arith))
 
 -- ---- edges by states
 
@@ -184,78 +111,33 @@ total_le firsts ends q (suc n) l =
     (λ t. let e : q ≡ suc n = omega (arith, leb-false q n t) in rw e (omega arith))
 
 -- what holds while the states are copied
-pub record Sorting (states : ℕ) (firsts ends tos sets from₀ to₀ marks₀ from to marks : List ℕ) (q m : ℕ) : Type 0 where
-  pub low : q ≤ states
+pub record Sorting (firsts ends tos sets from to marks : List ℕ) (q m : ℕ) : Type 0 where
   pub many : m ≡ total firsts ends q
-  pub from_size : length from ≡ length from₀
-  pub to_size : length to ≡ length to₀
-  pub marks_size : length marks ≡ length marks₀
   pub front : RowsCopied q firsts ends tos sets from to marks
 
-pub sorting_none : (states : ℕ) (firsts ends tos sets from to marks : List ℕ) → Sorting states firsts ends tos sets from to marks from to marks 0 0
-sorting_none states firsts ends tos sets from to marks =
-    record {
-      low = omega arith;
-      many = refl;
-      from_size = refl;
-      to_size = refl;
-      marks_size = refl;
-      front = record { froms = refl; targets = refl; unions = refl };
-    }
+pub sorting_none : (firsts ends tos sets from to marks : List ℕ) → Sorting firsts ends tos sets from to marks 0 0
+sorting_none firsts ends tos sets from to marks = record { many = refl; front = record { froms = refl; targets = refl; unions = refl } }
 
-module _ (states : ℕ) (firsts ends tos sets from₀ to₀ marks₀ from to marks : List ℕ) (q m : ℕ)
-    (h : Sorting states firsts ends tos sets from₀ to₀ marks₀ from to marks q m) (f : Fitting states firsts ends tos sets from₀ to₀ marks₀) (l : q < states) where
+module _ (firsts ends tos sets from to marks : List ℕ) (q m : ℕ) (h : Sorting firsts ends tos sets from to marks q m) where
   -- the next state finds room
-  pub sorting_room : m + (end_of ends q - first_of firsts q) ≤ total firsts ends states
-  sorting_room = omega (arith, h.many, total_le firsts ends (suc q) states l)
-
-  pub room_from : m + (end_of ends q - first_of firsts q) ≤ length from
-  room_from = omega (arith, sorting_room, f.from_room, h.from_size)
-
-  pub room_to : CopyRoom m (first_of firsts q) (end_of ends q) tos to
-  room_to =
-      record {
-        ordered = f.ordered q;
-        within = f.within q;
-        there = omega (arith, f.within q, f.targets);
-        room = omega (arith, sorting_room, f.to_room, h.to_size);
-      }
-
-  pub room_marks : CopyRoom m (first_of firsts q) (end_of ends q) sets marks
-  room_marks =
-      record {
-        ordered = f.ordered q;
-        within = f.within q;
-        there = omega (arith, f.within q, f.unions);
-        room = omega (arith, sorting_room, f.marks_room, h.marks_size);
-      }
+  pub sorting_room : (states : ℕ) → q < states → m + (end_of ends q - first_of firsts q) ≤ total firsts ends states
+  sorting_room states l = omega (arith, h.many, total_le firsts ends (suc q) states l)
 
   pub sorting_more : (from' to' marks' : List ℕ) (first next : ℕ) → first ≡ first_of firsts q → next ≡ m + (end_of ends q - first)
-      → length from' ≡ length from → length to' ≡ length to → length marks' ≡ length marks
-      → Filled m next q from from' → Copied m first (end_of ends q) tos to to' → Copied m first (end_of ends q) sets marks marks'
-      → Sorting states firsts ends tos sets from₀ to₀ marks₀ from' to' marks' (q + 1) next
-  sorting_more from' to' marks' first next e n a b c x y z =
+      → take next from' ≡ take m from ++ replicate (next - m) q → take next to' ≡ take m to ++ between first (end_of ends q) tos
+      → take next marks' ≡ take m marks ++ between first (end_of ends q) sets
+      → Sorting firsts ends tos sets from' to' marks' (q + 1) next
+  sorting_more from' to' marks' first next e n x y z =
       let k : next ≡ total firsts ends (suc q) = omega (arith, n, h.many, ap (λ (i : ℕ). end_of ends q - i) e) in
       let d : next - m ≡ end_of ends q - first_of firsts q = omega (arith, n, ap (λ (i : ℕ). end_of ends q - i) e) in
-      let w : m + (end_of ends q - first) ≡ total firsts ends (suc q) = sym n ∙ k in
       let s : q + 1 ≡ suc q = add-one q in
       record {
-        low = omega arith;
         many = rw s k;
-        from_size = a ∙ h.from_size;
-        to_size = b ∙ h.to_size;
-        marks_size = c ∙ h.marks_size;
         front =
             rw s
             (record {
-              froms = rw (d, k, h.many, h.front.froms) at x.front;
-              targets = rw (w, e, h.many, h.front.targets) at y.front;
-              unions = rw (w, e, h.many, h.front.unions) at z.front;
+              froms = rw (d, k, h.many, h.front.froms) at x;
+              targets = rw (k, e, h.many, h.front.targets) at y;
+              unions = rw (k, e, h.many, h.front.unions) at z;
             });
       }
-
-pub sorting_done : (states : ℕ) (firsts ends tos sets from₀ to₀ marks₀ from to marks : List ℕ) (q m : ℕ)
-    → Sorting states firsts ends tos sets from₀ to₀ marks₀ from to marks q m → states ≤ q → RowsCopied states firsts ends tos sets from to marks
-sorting_done states firsts ends tos sets from₀ to₀ marks₀ from to marks q m h l =
-    let e : q ≡ states = omega (arith, h.low) in
-    rw e at h.front

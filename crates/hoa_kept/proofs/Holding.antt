@@ -18,7 +18,7 @@ use Rattle.hoa_entry.specs.Rows.{Rows, no_rows, last_row, came, with_row, with_s
 use Rattle.hoa_entry.specs.inner.Reads.{Listed}
 use Rattle.hoa_kept.specs.Sorted.{leaving}
 use Rattle.hoa_kept.specs.inner.Copied.{first_of, end_of}
-use Rattle.hoa_kept.specs.inner.Held.{Holds, Blank, Begun, rows_with, EdgeKept}
+use Rattle.hoa_kept.specs.inner.Held.{Holds, none_yet, row_begun, rows_with}
 
 -- ---- nothing yet
 
@@ -27,26 +27,24 @@ none_replicate zero q = refl
 none_replicate (suc n) zero = refl
 none_replicate (suc n) (suc q) = none_replicate n q
 
-pub holds_none : (start : ℕ) (tos sets firsts ends : List ℕ) → Blank tos sets firsts ends
-    → Holds (no_rows start) (record { count = 0; row = 0; sig = 0; kept = 0; largest = start }) tos sets firsts ends
-holds_none start tos sets firsts ends k =
-    let f : (q : ℕ) → get_or firsts q 0 ≡ 0 = λ q. rw k.starts (none_replicate most_job_states q) in
-    let g : (q : ℕ) → get_or ends q 0 ≡ 0 = λ q. rw k.stops (none_replicate most_job_states q) in
+pub holds_none : (start : ℕ) → Holds (no_rows start) (none_yet start)
+holds_none start =
+    let f : (q : ℕ) → get_or (replicate most_job_states 0) q 0 ≡ 0 = λ q. none_replicate most_job_states q in
     record {
       count = refl;
       row = refl;
       sig = refl;
       kept = refl;
       largest = refl;
-      targets = k.targets;
-      unions = k.unions;
-      states_first = rw k.starts (length-replicate {A = ℕ} most_job_states 0);
-      states_end = rw k.stops (length-replicate {A = ℕ} most_job_states 0);
+      targets = refl;
+      unions = refl;
+      states_first = length-replicate {A = ℕ} most_job_states 0;
+      states_end = length-replicate {A = ℕ} most_job_states 0;
       listed = record { small = λ q e. absurd (false≢true e); marked = λ q l. rw (f q) };
-      parts = λ q. rw (f q, g q);
-      ordered = λ q. omega (arith, f q, g q);
-      within = λ q. omega (arith, g q);
-      empty = λ q e. g q;
+      parts = λ q. rw (f q);
+      ordered = λ q. omega (arith, f q);
+      within = λ q. omega (arith, f q);
+      empty = λ q e. f q;
       last = λ q qs e. let z : ◌≡◌ {A = ℕ} 0 1 = cc in absurd (omega arith);
     }
 
@@ -68,19 +66,19 @@ module _ (seen firsts : List ℕ) (q v : ℕ) (l : q < most_job_states) (size : 
             (λ n. rw (ne_eqb x q n, get_or-set_other firsts q x v 0 n, h.marked x m));
       }
 
-module _ (b : Rows) (s : RowsSoFar) (tos sets firsts ends : List ℕ) (h : Holds b s tos sets firsts ends) where
+module _ (b : Rows) (s : RowsSoFar) (h : Holds b s) where
   -- a row with this number begins
-  pub holds_row : (q m : ℕ) (firsts' ends' : List ℕ) (r : RowsSoFar) → q < most_job_states → get_or firsts q 0 ≡ 0 → Begun s q m firsts ends firsts' ends' r
-      → Holds (with_sig m (with_row q b)) r tos sets firsts' ends'
-  holds_row q m firsts' ends' r l z k =
+  pub holds_row : (q m : ℕ) → q < most_job_states → get_or s.firsts q 0 ≡ 0 → Holds (with_sig m (with_row q b)) (row_begun s q m)
+  holds_row q m l z =
+      let firsts = s.firsts in
+      let ends = s.ends in
       let f : get_or (set firsts q (s.kept + 1)) q 0 ≡ s.kept + 1 = get_or-set_same firsts q (s.kept + 1) 0 (omega (arith, h.states_first)) in
       let g : get_or (set ends q s.kept) q 0 ≡ s.kept = get_or-set_same ends q s.kept 0 (omega (arith, h.states_end)) in
       let f' : (x : ℕ) → (x ≡ q → ⊥) → get_or (set firsts q (s.kept + 1)) x 0 ≡ get_or firsts x 0 = λ x n. get_or-set_other firsts q x (s.kept + 1) 0 n in
       let g' : (x : ℕ) → (x ≡ q → ⊥) → get_or (set ends q s.kept) x 0 ≡ get_or ends x 0 = λ x n. get_or-set_other ends q x s.kept 0 n in
       let none : leaving q b.edges ≡ [] = rw (h.parts q, h.empty q z, z) in
       let y : s.kept - (s.kept + 1 - 1) ≡ 0 = omega arith in
-      rw (k.is, k.starts, k.stops)
-      (record {
+      record {
         count = omega (arith, h.count);
         row = refl;
         sig = refl;
@@ -96,7 +94,7 @@ module _ (b : Rows) (s : RowsSoFar) (tos sets firsts ends : List ℕ) (h : Holds
         within = λ x. same x q (λ e. rw (e, g) (omega (arith, h.kept))) (λ n. rw (g' x n) (h.within x));
         empty = λ x. same x q (λ e. rw (e, f) (λ t. absurd (omega arith))) (λ n. rw (f' x n, g' x n) (h.empty x));
         last = λ x xs e. let t : x ≡ q = cc in rw (t, g) h.kept;
-      })
+      }
 
 -- ---- an edge
 
@@ -123,27 +121,15 @@ came_last : (seen : List ℕ) → (length seen ≡ 0 → ⊥) → (came (last_ro
 came_last [] n = absurd (n refl)
 came_last (q ∷ qs) n = (rw (eq-eqb q q refl), refl)
 
-pub some_set : (x : ℕ) → (x ≡ 0 → ⊥) → 0 < x
-some_set zero h = absurd (h refl)
-some_set (suc x) h = omega arith
-
--- what an edge changes, by its valuations
-module _ (s : RowsSoFar) (x to m : ℕ) (tos sets ends : List ℕ) (n : ℕ) where
-  pub edge_dropped : x ≡ 0 → n ≡ max s.largest to
-      → EdgeKept s x to m tos sets ends tos sets ends (record { count = s.count; row = s.row; sig = s.sig; kept = s.kept; largest = n })
-  edge_dropped e q = rw (e, q) (record { is = refl; targets = refl; unions = refl; stops = refl })
-
-pub edge_kept : (s : RowsSoFar) (x to m : ℕ) (tos sets ends : List ℕ) (n : ℕ) → (x ≡ 0 → ⊥) → n ≡ max s.largest to
-    → EdgeKept s x to m tos sets ends (set tos s.kept to) (set sets s.kept m) (set ends s.row (s.kept + 1))
-    (record { count = s.count; row = s.row; sig = s.sig; kept = s.kept + 1; largest = n })
-edge_kept s zero to m tos sets ends n h q = absurd (h refl)
-edge_kept s (suc x) to m tos sets ends n h q = rw q (record { is = refl; targets = refl; unions = refl; stops = refl })
-
-module _ (b : Rows) (s : RowsSoFar) (tos sets firsts ends : List ℕ) (h : Holds b s tos sets firsts ends) where
+module _ (b : Rows) (s : RowsSoFar) (h : Holds b s) where
   -- an edge that is kept
   kept_edge : (x to m : ℕ) → (s.count ≡ 0 → ⊥) → s.row < most_job_states → s.kept < most_job_edges
-      → Holds (with_edge (suc x) to m b) (rows_with s (suc x) to) (set tos s.kept to) (set sets s.kept m) firsts (set ends s.row (s.kept + 1))
+      → Holds (with_edge (suc x) to m b) (rows_with s (suc x) to m)
   kept_edge x to m some l room =
+      let tos = s.tos in
+      let sets = s.sets in
+      let firsts = s.firsts in
+      let ends = s.ends in
       let es = b.edges in
       let e : Edge = record { from = last_row b.seen; to = to; marks = m } in
       let i = s.row in
@@ -190,7 +176,7 @@ module _ (b : Rows) (s : RowsSoFar) (tos sets firsts ends : List ℕ) (h : Holds
       }
 
   -- an edge that no valuation satisfies
-  dropped_edge : (to m : ℕ) → Holds (with_edge zero to m b) (rows_with s zero to) tos sets firsts ends
+  dropped_edge : (to m : ℕ) → Holds (with_edge zero to m b) (rows_with s zero to m)
   dropped_edge to m =
       rw (append-nil b.edges)
       (record {
@@ -211,8 +197,7 @@ module _ (b : Rows) (s : RowsSoFar) (tos sets firsts ends : List ℕ) (h : Holds
         last = h.last;
       })
 
-  pub holds_edge : (x to m : ℕ) (tos' sets' ends' : List ℕ) (r : RowsSoFar) → (s.count ≡ 0 → ⊥) → s.row < most_job_states
-      → (0 < x → s.kept < most_job_edges) → EdgeKept s x to m tos sets ends tos' sets' ends' r → Holds (with_edge x to m b) r tos' sets' firsts ends'
-  holds_edge zero to m tos' sets' ends' r some l room k = rw (k.is, k.targets, k.unions, k.stops) (dropped_edge to m)
-  holds_edge (suc x) to m tos' sets' ends' r some l room k =
-      rw (k.is, k.targets, k.unions, k.stops) (kept_edge x to m some l (room (omega arith)))
+  pub holds_edge : (x to m : ℕ) → (s.count ≡ 0 → ⊥) → s.row < most_job_states → (0 < x → s.kept < most_job_edges)
+      → Holds (with_edge x to m b) (rows_with s x to m)
+  holds_edge zero to m some l room = dropped_edge to m
+  holds_edge (suc x) to m some l room = kept_edge x to m some l (room (omega arith))

@@ -10,8 +10,6 @@ pub mod Sound
 pub mod Faults
 -- Meaning: what the set of a label means
 pub mod Meaning
--- Told: what a token is by its kind
-pub mod Told
 -- Runs: the run over a text's tokens, one token at a time
 pub mod Runs
 -- Promises: what the reader promises of a text

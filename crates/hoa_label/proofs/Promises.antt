@@ -4,11 +4,12 @@ use mathlib.Core.List.{List, [], ◌∷◌, ◌++◌}
 use mathlib.Core.Path.{◌≡◌, refl, sym, ap, subst, ◌∙◌}
 use Prim.Native.Nat.{ℕ}
 use native.Mathlib.Omega.{arith}
+use Rattle.std.specs.Prelude.{Result, Ok, Err}
 use Rattle.hoa_tokens.specs.declared.Sign.TheVariants as sign_is
 use Rattle.hoa_tokens.specs.Token.{Token, sign}
-use Rattle.hoa_tokens.specs.Stream.{Placed, tokens_at}
+use Rattle.hoa_tokens.specs.Stream.{Placed, tokens_at, bad_at}
+use Rattle.hoa_tokens.specs.declared.BadToken.{BadToken}
 use Rattle.hoa_label.specs.declared.LabelRead.{LabelRead}
-use Rattle.hoa_label.specs.declared.LabelRead.TheVariants.{Shut, Refused}
 use Rattle.hoa_label.specs.Label.{Label, label_text, most_levels, Within, SetOf}
 use Rattle.hoa_label.specs.Labels.{
   LabelState,
@@ -30,7 +31,7 @@ use Rattle.hoa_label.specs.Labels.{
   end_by,
   label_run,
 }
-use Rattle.hoa_label.specs.Reading.{label_end, LabelAt, tokens_of, Promised, read, refused}
+use Rattle.hoa_label.specs.Reading.{shut_to, label_end, LabelAt, tokens_of, Promised, read, refused}
 use Rattle.hoa_label.proofs.Sets.{label_set}
 use Rattle.hoa_label.proofs.Walks.{closed_going, closed_faulty, closed_set, closed_rest}
 use Rattle.hoa_label.proofs.Complete.{complete}
@@ -154,33 +155,33 @@ module _ (a : ℕ) where
 -- ---- the promises
 
 -- what the reader gives is what the grammar says
-pub promised : (text : List ℕ) (at a : ℕ) (r : LabelRead) → LabelAt text at a r → Promised text at a r
-promised text at a (Shut set next) h =
-    let w = sound most_levels a set (tokens_of (tokens_at text at)) (tokens_of (tokens_at text next)) (run_shut a set (tokens_at text next) (tokens_at text at) label_begin h.is) in
-    read {set = set} {next = next} w.label w.within w.text (λ six. subst (SetOf w.label) (sym w.set) (meaning a six w.label w.within.fits))
-promised text at a (Refused number place) h =
-    let w = run_wrong a number place (tokens_at text at) label_begin h.is in
-    subst (λ (p : ℕ). Promised text at a (Refused number p)) w.there
+pub promised : (text : List ℕ) (at a : ℕ) (r : Result LabelRead BadToken) → LabelAt text at a r → Promised text at a r
+promised text at a (Ok r) h =
+    let w = sound most_levels a r.set (tokens_of (tokens_at text at)) (tokens_of (tokens_at text r.next)) (run_shut a r.set (tokens_at text r.next) (tokens_at text at) label_begin h.is) in
+    read {set = r.set} {next = r.next} w.label w.within w.text (λ six. subst (SetOf w.label) (sym w.set) (meaning a six w.label w.within.fits))
+promised text at a (Err e) h =
+    let w = run_wrong a e.number e.place (tokens_at text at) label_begin h.is in
+    subst (λ (p : ℕ). Promised text at a (bad_at e.number p)) w.there
     (refused w.before w.token w.after w.split (admitted most_levels a (tokens_of w.before) w.state w.goes)
-    (faulty_token most_levels a (tokens_of w.before) w.state w.token.token number w.goes w.stops))
+    (faulty_token most_levels a (tokens_of w.before) w.state w.token.token e.number w.goes w.stops))
 
 -- a label of the grammar that fits is read, with its set and what follows it
-pub record IsRead (text : List ℕ) (l : Label) (rest : List Token) (r : LabelRead) : Type 0 where
+pub record IsRead (text : List ℕ) (l : Label) (rest : List Token) (r : Result LabelRead BadToken) : Type 0 where
   pub set : ℕ
   pub next : ℕ
-  pub is : r ≡ Shut set next
+  pub is : r ≡ shut_to set next
   pub right : set ≡ label_set l
   pub follows : tokens_of (tokens_at text next) ≡ rest
 
 -- wherever its tokens stand in a text
-pub label_is_read : (text : List ℕ) (at a : ℕ) (r : LabelRead) (l : Label) (rest : List Token) → LabelAt text at a r → Within most_levels a l
+pub label_is_read : (text : List ℕ) (at a : ℕ) (r : Result LabelRead BadToken) (l : Label) (rest : List Token) → LabelAt text at a r → Within most_levels a l
     → tokens_of (tokens_at text at) ≡ label_text l (sign sign_is.BracketRight ∷ rest) → IsRead text l rest r
 label_is_read text at a r l rest h w e =
     given r h.is (walk_closed a (label_set l) rest (tokens_at text at) label_begin (ap (walk_within most_levels a label_begin) e ∙ complete most_levels a l rest w))
   where
     -- a refusal does not agree with that
-    given : (r : LabelRead) → label_run a label_begin (tokens_at text at) ≡ label_end text r → Shuts a label_begin (tokens_at text at) (label_set l) rest → IsRead text l rest r
-    given (Shut set next) q s =
+    given : (r : Result LabelRead BadToken) → label_run a label_begin (tokens_at text at) ≡ label_end text r → Shuts a label_begin (tokens_at text at) (label_set l) rest → IsRead text l rest r
+    given (Ok v) q s =
         let d = sym q ∙ s.runs in
-        record { set = set; next = next; is = refl; right = shut_set d; follows = ap tokens_of (shut_rest d) ∙ s.tokens }
-    given (Refused n p) q s = wrong_shut (sym q ∙ s.runs)
+        record { set = v.set; next = v.next; is = refl; right = shut_set d; follows = ap tokens_of (shut_rest d) ∙ s.tokens }
+    given (Err x) q s = wrong_shut (sym q ∙ s.runs)

@@ -9,6 +9,7 @@ use borrow.Author.Tests.{ltb-true}
 use lib.Bits.{bit_and, bit_or}
 use lib.Dec.{eqb, ltb, eqb-suc-zero}
 use lib.ListN.{length}
+use Rattle.std.specs.Prelude.{Result, Ok, Err}
 use Rattle.hoa_tokens.specs.declared.Word.{Word}
 use Rattle.hoa_tokens.specs.declared.Word.TheVariants as word_is
 use Rattle.hoa_tokens.specs.declared.Sign.{Sign}
@@ -17,14 +18,14 @@ use Rattle.hoa_tokens.specs.declared.Kind.{Kind}
 use Rattle.hoa_tokens.specs.declared.Kind.TheVariants as kind_is
 use Rattle.hoa_tokens.specs.declared.Found.{Found}
 use Rattle.hoa_tokens.specs.Token.{Token, int, word, header, str, aname, sign, body, end, abort, finish, bad}
-use Rattle.hoa_tokens.specs.Stream.{Placed, unless_finished, tokens_at, token_of, TokenAt}
+use Rattle.hoa_tokens.specs.Stream.{Placed, unless_finished, tokens_at, token_of, TokenAt, bad_at}
 use Rattle.hoa_tokens.proofs.Next.{tokens_next, Moves, token_takes}
 use Rattle.hoa_label.specs.declared.Wanted.{Wanted}
 use Rattle.hoa_label.specs.declared.Wanted.TheVariants as wanted_is
 use Rattle.hoa_label.specs.declared.Behind.{Behind}
 use Rattle.hoa_label.specs.declared.Behind.TheVariants as behind_is
+use Rattle.hoa_tokens.specs.declared.BadToken.{BadToken}
 use Rattle.hoa_label.specs.declared.LabelRead.{LabelRead}
-use Rattle.hoa_label.specs.declared.LabelRead.TheVariants.{Shut, Refused}
 use Rattle.hoa_label.specs.Label.{most_levels}
 use Rattle.hoa_label.specs.Labels.{
   turned,
@@ -56,7 +57,7 @@ use Rattle.hoa_label.specs.Labels.{
   next_by,
   label_next,
 }
-use Rattle.hoa_label.specs.Reading.{Onward, LabelAt}
+use Rattle.hoa_label.specs.Reading.{shut_to, Onward, LabelAt}
 use Rattle.hoa_label.specs.inner.Levels.{Stop, stop_from, stop_by, factor_stop, FactorAt, flipped_read, LevelAt}
 
 -- ---- one token
@@ -175,7 +176,7 @@ module _ (text : List ℕ) (a : ℕ) where
     not_less q = let m = fine_moves depth h e (ap is_fine q) in (omega (arith, m.behind_at, m.takes), omega (arith, m.behind_at, m.takes, m.within))
 
     -- a factor of one token
-    pub set_read : {x y : ℕ} → w ≡ wanted_is.Set x → y ≡ turned flipped x → FactorAt text at a depth (Shut y f.next)
+    pub set_read : {x y : ℕ} → w ≡ wanted_is.Set x → y ≡ turned flipped x → FactorAt text at a depth (shut_to y f.next)
     unfolding is_fine
     set_read q d =
         let m = fine_moves depth h e (ap is_fine q) in
@@ -186,24 +187,29 @@ module _ (text : List ℕ) (a : ℕ) where
         })
 
     -- a token that is no factor
-    pub wrong_read : {n : ℕ} → w ≡ wanted_is.Wrong n → FactorAt text at a depth (Refused n f.first)
+    pub wrong_read : {n : ℕ} → w ≡ wanted_is.Wrong n → FactorAt text at a depth (bad_at n f.first)
     wrong_read q = record { is = λ o c fs l. i.is o c fs l ∙ wants_run (frame o c flipped) fs l h e q; onward = tt }
 
     -- a level in brackets, by what reading it gives
-    deeper : (r : LabelRead) → w ≡ wanted_is.Deeper → LevelAt text f.next a (depth + 1) r → FactorAt text at a depth (flipped_read flipped r)
+    deeper : (r : Result LabelRead BadToken) → w ≡ wanted_is.Deeper → LevelAt text f.next a (depth + 1) r → FactorAt text at a depth (flipped_read flipped r)
     unfolding is_fine
-    deeper (Shut x next) q v =
+    deeper (Ok x) q v =
         let m = fine_moves depth h e (ap is_fine q) in
         record {
           is = λ o c fs l. i.is o c fs l ∙ wants_run (frame o c flipped) fs l h e q ∙ v.is (frame o c flipped ∷ fs) (omega arith);
           onward = (omega (arith, i.onward, m.behind_at, m.takes, v.onward.0), v.onward.1);
         }
-    deeper (Refused n p) q v =
+    deeper (Err x) q v =
         record { is = λ o c fs l. i.is o c fs l ∙ wants_run (frame o c flipped) fs l h e q ∙ v.is (frame o c flipped ∷ fs) (omega arith); onward = tt }
 
     -- a level in brackets is a factor
-    pub level_read : {r s : LabelRead} → w ≡ wanted_is.Deeper → LevelAt text f.next a (depth + 1) r → s ≡ flipped_read flipped r → FactorAt text at a depth s
-    level_read {r} q v d = rw d (deeper r q v)
+    pub level_read : {r : Result LabelRead BadToken} {v : LabelRead} {y : ℕ} → w ≡ wanted_is.Deeper → LevelAt text f.next a (depth + 1) r → r ≡ Ok v
+        → y ≡ turned flipped v.set → FactorAt text at a depth (shut_to y v.next)
+    level_read {v = v} q l is d = rw d (deeper (Ok v) q (subst (LevelAt text f.next a (depth + 1)) is l))
+
+    -- unless it is refused
+    pub level_wrong : {r : Result LabelRead BadToken} {b : BadToken} → w ≡ wanted_is.Deeper → LevelAt text f.next a (depth + 1) r → r ≡ Err b → FactorAt text at a depth (Err b)
+    level_wrong {b = b} q l is = deeper (Err b) q (subst (LevelAt text f.next a (depth + 1)) is l)
 
   -- ---- a level
 
@@ -218,19 +224,15 @@ module _ (text : List ℕ) (a : ℕ) where
     pub is : (fs : List Frame) → length fs ≡ depth → on_from at (wants fresh fs) ≡ on_from from (wants (frame ors ands false) fs)
     pub onward : at ≤ from
 
-  module _ {at depth ors ands from : ℕ} {r : LabelRead} (i : Joins at depth ors ands from) (v : FactorAt text from a depth r) where
-    -- a factor that is refused
-    pub factor_wrong : {n p : ℕ} → r ≡ Refused n p → LevelAt text at a depth (Refused n p)
-    factor_wrong q = record { is = λ fs l. i.is fs l ∙ v.is ors ands fs l ∙ ap (factor_stop text a ors ands fs) q; onward = tt }
-
-    module _ {x from' : ℕ} {f : Found} {b : Behind} (q : r ≡ Shut x from') (h : TokenAt text from' f) (e : Stands depth f.kind b) where
+  module _ {at depth ors ands from : ℕ} {r : Result LabelRead BadToken} (i : Joins at depth ors ands from) (v : FactorAt text from a depth r) where
+    module _ {w : LabelRead} {f : Found} {b : Behind} (q : r ≡ Ok w) (h : TokenAt text w.next f) (e : Stands depth f.kind b) where
       -- the run over a factor and the token behind it
       onto : {u : Behind} (fs : List Frame) → length fs ≡ depth → b ≡ u
-          → on_from at (wants fresh fs) ≡ stop_by (on_behind ors (bit_and ands x) fs u) f.first f.next (tokens_at text f.next) (on_from f.next)
-      onto fs l k = i.is fs l ∙ v.is ors ands fs l ∙ ap (factor_stop text a ors ands fs) q ∙ behind_run_lem ors (bit_and ands x) fs l h e k
+          → on_from at (wants fresh fs) ≡ stop_by (on_behind ors (bit_and ands w.set) fs u) f.first f.next (tokens_at text f.next) (on_from f.next)
+      onto fs l k = i.is fs l ∙ v.is ors ands fs l ∙ ap (factor_stop text a ors ands fs) q ∙ behind_run_lem ors (bit_and ands w.set) fs l h e k
 
       -- a factor takes a byte
-      further : (from < from') × (from' ≤ length text)
+      further : (from < w.next) × (w.next ≤ length text)
       further = subst (Onward text from) q v.onward
 
       -- so does a turn
@@ -238,23 +240,23 @@ module _ (text : List ℕ) (a : ℕ) where
       level_less = (omega (arith, further, h.behind_at, h.behind_first), omega (arith, further))
 
       -- an `&`
-      pub and_again : b ≡ behind_is.And → Joins at depth ors (bit_and ands x) f.next
+      pub and_again : b ≡ behind_is.And → Joins at depth ors (bit_and ands w.set) f.next
       and_again k = record { is = λ fs l. onto fs l k; onward = omega (arith, i.onward, level_less) }
 
       -- a `|`
-      pub or_again : {y z : ℕ} → b ≡ behind_is.Or → y ≡ bit_or ors (bit_and ands x) → z ≡ full → Joins at depth y z f.next
+      pub or_again : {y z : ℕ} → b ≡ behind_is.Or → y ≡ bit_or ors (bit_and ands w.set) → z ≡ full → Joins at depth y z f.next
       or_again k d g = rw (d, g) (record { is = λ fs l. onto fs l k; onward = omega (arith, i.onward, level_less) })
 
       -- what shuts the level
-      pub shut_read : b ≡ behind_is.Shut → LevelAt text at a depth (Shut (bit_or ors (bit_and ands x)) f.next)
+      pub shut_read : b ≡ behind_is.Shut → LevelAt text at a depth (shut_to (bit_or ors (bit_and ands w.set)) f.next)
       shut_read k =
           record {
-            is = λ fs l. onto fs l k ∙ no_place (bit_or ors (bit_and ands x)) fs f.first f.next (tokens_at text f.next) (on_from f.next);
+            is = λ fs l. onto fs l k ∙ no_place (bit_or ors (bit_and ands w.set)) fs f.first f.next (tokens_at text f.next) (on_from f.next);
             onward = (omega (arith, i.onward, level_less), h.within further.1);
           }
 
       -- a token that does not go on
-      pub behind_wrong : {n : ℕ} → b ≡ behind_is.Wrong n → LevelAt text at a depth (Refused n f.first)
+      pub behind_wrong : {n : ℕ} → b ≡ behind_is.Wrong n → LevelAt text at a depth (bad_at n f.first)
       behind_wrong k = record { is = λ fs l. onto fs l k; onward = tt }
 
 -- ---- a level opens only where there is room for one more
@@ -323,6 +325,6 @@ room_left text a depth k e q = ltb-true depth most_levels (by_room (ltb depth mo
 -- ---- a label
 
 -- a level with none outside is a label
-pub label_read : (text : List ℕ) (at a : ℕ) {r : LabelRead} → LevelAt text at a 0 r → LabelAt text at a r
-label_read text at a {r = Shut x next} v = let e = v.is [] refl in record { is = ap (λ (d : Stop). d.0) e; behind = ap (λ (d : Stop). d.1) e; onward = v.onward }
-label_read text at a {r = Refused n p} v = let e = v.is [] refl in record { is = ap (λ (d : Stop). d.0) e; behind = ap (λ (d : Stop). d.1) e; onward = v.onward }
+pub label_read : (text : List ℕ) (at a : ℕ) {r : Result LabelRead BadToken} → LevelAt text at a 0 r → LabelAt text at a r
+label_read text at a {r = Ok x} v = let e = v.is [] refl in record { is = ap (λ (d : Stop). d.0) e; behind = ap (λ (d : Stop). d.1) e; onward = v.onward }
+label_read text at a {r = Err x} v = let e = v.is [] refl in record { is = ap (λ (d : Stop). d.0) e; behind = ap (λ (d : Stop). d.1) e; onward = v.onward }

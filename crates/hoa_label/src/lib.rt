@@ -7,9 +7,9 @@ ghost use Rattle.hoa_tokens.specs.Stream.{token_of};
 ghost use Rattle.hoa_label.specs.Labels.{prop_set, turned, wanted_word, wanted_sign, wanted, behind_sign, behind};
 ghost use Rattle.hoa_label.specs.Label.{most_levels};
 ghost use Rattle.hoa_label.specs.Reading.{LabelAt};
-ghost use Rattle.hoa_label.specs.inner.Levels.{flipped_read, FactorAt, LevelAt};
+ghost use Rattle.hoa_label.specs.inner.Levels.{FactorAt, LevelAt};
 
-use hoa_tokens::{Kind, Sign, Word, token_at};
+use hoa_tokens::{BadToken, Found, Kind, Sign, Word, token_at};
 
 // What a token is where a factor is wanted: a factor with its valuations, `!`, `(`, or a fault.
 #[derive(Clone, Copy)]
@@ -29,11 +29,11 @@ pub enum Behind {
     Wrong(u32),
 }
 
-// What reading a label gives: its set of valuations and the byte behind its `]`, or the refusal.
+// A label that is read: its set of valuations, and the byte behind its `]`.
 #[derive(Clone, Copy)]
-pub enum LabelRead {
-    Shut { set: u64, next: usize },
-    Refused { number: u32, place: usize },
+pub struct LabelRead {
+    pub set: u64,
+    pub next: usize,
 }
 
 // The numbers of a fault: no label begins so; none of the subset does; a limit is passed.
@@ -47,40 +47,36 @@ const LIMIT: u32 = 42;
 const MOST_LEVELS: u32 = 256;
 
 // All 64 valuations of 6 propositions.
-const FULL: u64 = 18446744073709551615;
+const FULL: u64 = u64::MAX;
 
 // For each proposition the valuations in which it is true: v is one for proposition i if bit i of v is 1.
 const PROPS: [u64; 6] = [
-    12297829382473034410,
-    14757395258967641292,
-    17361641481138401520,
-    18374966859414961920,
-    18446462603027742720,
-    18446744069414584320,
+    0xAAAA_AAAA_AAAA_AAAA,
+    0xCCCC_CCCC_CCCC_CCCC,
+    0xF0F0_F0F0_F0F0_F0F0,
+    0xFF00_FF00_FF00_FF00,
+    0xFFFF_0000_FFFF_0000,
+    0xFFFF_FFFF_0000_0000,
 ];
 
 // The valuations in which a proposition is true; none from the seventh proposition on.
+#[tactic(auto, unfolding(crate::specs::Labels::prop_set))]
 fn prop_set(prop: u32) -> u64
     ensures { result ≡ prop_set prop }
 {
-    let i = prop as usize;
-    if i < 6 {
-        return PROPS[i];
-    }
-    0
+    PROPS.get(prop as usize).copied().unwrap_or(0)
 }
 
 // The set, or the valuations outside it.
+#[tactic(auto, unfolding(crate::specs::Labels::full))]
 fn turn(flipped: bool, set: u64) -> u64
     ensures { result ≡ turned flipped set }
 {
-    if flipped {
-        return FULL ^ set;
-    }
-    set
+    if flipped { FULL ^ set } else { set }
 }
 
 // What a word is where a factor is wanted.
+#[tactic(auto, unfolding(crate::specs::Labels::full))]
 fn wanted_word(word: Word) -> Wanted
     ensures { result ≡ wanted_word word }
 {
@@ -97,31 +93,22 @@ fn wanted_sign(sign: Sign, room: bool) -> Wanted
 {
     match sign {
         Sign::Not => Wanted::Not,
-        Sign::ParenLeft => {
-            if room {
-                return Wanted::Deeper;
-            }
-            Wanted::Wrong(LIMIT)
-        }
+        Sign::ParenLeft if room => Wanted::Deeper,
+        Sign::ParenLeft => Wanted::Wrong(LIMIT),
         _ => Wanted::Wrong(SYNTAX),
     }
 }
 
 // What a token is where a factor is wanted, with a propositions.
+#[tactic(auto, unfolding(crate::specs::Labels::wanted))]
 fn wanted_token(kind: Kind, a: u32, room: bool) -> Wanted
     ensures { (text : List ℕ) (p q : ℕ) → result ≡ wanted a room (token_of text p q kind) }
 {
     match kind {
-        Kind::Int(i) => {
-            if i < a {
-                return Wanted::Set(prop_set(i));
-            }
-            Wanted::Wrong(SUBSET)
-        }
+        Kind::Int(i) if i < a => Wanted::Set(prop_set(i)),
         Kind::Word(word) => wanted_word(word),
         Kind::Sign(sign) => wanted_sign(sign, room),
-        Kind::Alias => Wanted::Wrong(SUBSET),
-        Kind::Abort => Wanted::Wrong(SUBSET),
+        Kind::Int(_) | Kind::Alias | Kind::Abort => Wanted::Wrong(SUBSET),
         _ => Wanted::Wrong(SYNTAX),
     }
 }
@@ -133,23 +120,14 @@ fn behind_sign(sign: Sign, outermost: bool) -> Behind
     match sign {
         Sign::And => Behind::And,
         Sign::Or => Behind::Or,
-        Sign::ParenRight => {
-            if outermost {
-                return Behind::Wrong(SYNTAX);
-            }
-            Behind::Shut
-        }
-        Sign::BracketRight => {
-            if outermost {
-                return Behind::Shut;
-            }
-            Behind::Wrong(SYNTAX)
-        }
+        Sign::ParenRight if !outermost => Behind::Shut,
+        Sign::BracketRight if outermost => Behind::Shut,
         _ => Behind::Wrong(SYNTAX),
     }
 }
 
 // What a token is behind a factor.
+#[tactic(auto, unfolding(crate::specs::Labels::behind))]
 fn behind_token(kind: Kind, outermost: bool) -> Behind
     ensures { (text : List ℕ) (p q : ℕ) → result ≡ behind outermost (token_of text p q kind) }
 {
@@ -160,49 +138,35 @@ fn behind_token(kind: Kind, outermost: bool) -> Behind
     }
 }
 
-// A level that is read as a factor, negated or not.
-fn flip(read: LabelRead, flipped: bool) -> LabelRead
-    ensures { result ≡ flipped_read flipped read }
-{
-    match read {
-        LabelRead::Shut { set, next } => LabelRead::Shut {
-            set: turn(flipped, set),
-            next,
-        },
-        LabelRead::Refused { number, place } => LabelRead::Refused { number, place },
-    }
-}
-
 // A factor with the `!` in front of it, so many levels deep: its valuations, and the byte behind it.
 #[cycle(factor_level)]
-fn factor(text: &[u8], at: usize, a: u32, depth: u32) -> LabelRead
+fn factor(text: &[u8], at: usize, a: u32, depth: u32) -> Result<LabelRead, BadToken>
     requires { depth ≤ most_levels }
     ensures { FactorAt text.now at a depth result }
 {
     let mut flipped = false;
     let mut from = at;
     loop {
-        let found = token_at(text, from);
-        let first = found.first;
-        let next = found.next;
-        let kind = found.kind;
+        let Found { first, next, kind } = token_at(text, from);
         match wanted_token(kind, a, depth < MOST_LEVELS) {
             Wanted::Not => {
                 flipped = !flipped;
                 from = next;
             }
             Wanted::Set(set) => {
-                return LabelRead::Shut {
-                    set: turn(flipped, set),
-                    next,
-                };
+                let set = turn(flipped, set);
+                return Ok(LabelRead { set, next });
             }
-            Wanted::Deeper => return flip(level(text, next, a, depth + 1), flipped),
+            Wanted::Deeper => {
+                let inner = level(text, next, a, depth + 1)?;
+                let set = turn(flipped, inner.set);
+                return Ok(LabelRead { set, ..inner });
+            }
             Wanted::Wrong(number) => {
-                return LabelRead::Refused {
+                return Err(BadToken {
                     number,
                     place: first,
-                };
+                });
             }
         }
     }
@@ -210,7 +174,7 @@ fn factor(text: &[u8], at: usize, a: u32, depth: u32) -> LabelRead
 
 // A level of brackets, so many levels deep: its valuations, and the byte behind the mark that shuts it.
 #[cycle(factor_level)]
-fn level(text: &[u8], at: usize, a: u32, depth: u32) -> LabelRead
+fn level(text: &[u8], at: usize, a: u32, depth: u32) -> Result<LabelRead, BadToken>
     requires { depth ≤ most_levels }
     ensures { LevelAt text.now at a depth result }
 {
@@ -218,35 +182,34 @@ fn level(text: &[u8], at: usize, a: u32, depth: u32) -> LabelRead
     let mut ands: u64 = FULL;
     let mut from = at;
     loop {
-        match factor(text, from, a, depth) {
-            LabelRead::Refused { number, place } => return LabelRead::Refused { number, place },
-            LabelRead::Shut { set, next } => {
-                let met = ands & set;
-                let found = token_at(text, next);
-                let place = found.first;
-                let kind = found.kind;
-                from = found.next;
-                match behind_token(kind, depth == 0) {
-                    Behind::And => ands = met,
-                    Behind::Or => {
-                        ors = ors | met;
-                        ands = FULL;
-                    }
-                    Behind::Shut => {
-                        return LabelRead::Shut {
-                            set: ors | met,
-                            next: from,
-                        };
-                    }
-                    Behind::Wrong(number) => return LabelRead::Refused { number, place },
-                }
+        let read = factor(text, from, a, depth)?;
+        let met = ands & read.set;
+        let found = token_at(text, read.next);
+        from = found.next;
+        match behind_token(found.kind, depth == 0) {
+            Behind::And => ands = met,
+            Behind::Or => {
+                ors |= met;
+                ands = FULL;
+            }
+            Behind::Shut => {
+                return Ok(LabelRead {
+                    set: ors | met,
+                    next: from,
+                });
+            }
+            Behind::Wrong(number) => {
+                return Err(BadToken {
+                    number,
+                    place: found.first,
+                });
             }
         }
     }
 }
 
-// The label behind the `[` that ends at a place, with a propositions.
-pub fn read_label(text: &[u8], at: usize, a: u32) -> LabelRead
+// The label behind the `[` that ends at a place, with a propositions, or its refusal.
+pub fn read_label(text: &[u8], at: usize, a: u32) -> Result<LabelRead, BadToken>
     ensures { LabelAt text.now at a result }
 {
     level(text, at, a, 0)

@@ -18,10 +18,8 @@ fn put_infs(out: &mut [u8], at: usize, first: u32, count: u32) -> usize
     ensures { PutFew out.old out.new at (further_infs first count) result (16 * count) }
 {
     let mut next = at;
-    let mut i: u32 = 0;
-    while i < count {
+    for i in 0..count {
         next = put_held(out, next, b"&Inf(", first + i, b')');
-        i += 1;
     }
     next
 }
@@ -58,10 +56,8 @@ fn put_more_streett(out: &mut [u8], at: usize, count: u32) -> usize
     ensures { PutFew out.old out.new at (further_streett count) result (34 * count) }
 {
     let mut next = at;
-    let mut i: u32 = 0;
-    while i < count {
+    for i in 0..count {
         next = put_streett_pair(out, next, b"&(Fin(", i + 1);
-        i += 1;
     }
     next
 }
@@ -100,12 +96,9 @@ fn put_more_rabin(out: &mut [u8], at: usize, count: u32, needs: [u32; 8]) -> usi
 {
     let mut next = at;
     let mut forbidden = 1 + needs[0];
-    let mut i: usize = 0;
-    while i < count as usize {
-        let need = needs[i + 1];
-        next = put_rabin_pair(out, next, b"|(Fin(", forbidden, need);
+    for need in &needs[1..count as usize + 1] {
+        next = put_rabin_pair(out, next, b"|(Fin(", forbidden, *need);
         forbidden += 1 + need;
-        i += 1;
     }
     next
 }

@@ -32,10 +32,8 @@ fn put_marks(out: &mut [u8], at: usize, set: u32) -> usize
     ensures { PutFew out.old out.new at (marks_text set) result 352 }
 {
     let mut next = at;
-    let mut mark: u32 = 0;
-    while mark < 32 {
+    for mark in 0..32 {
         next = put_mark(out, next, set, mark);
-        mark += 1;
     }
     next
 }
@@ -71,12 +69,8 @@ fn put_edges(out: &mut [u8], at: usize, to: &[u32], marks: &[u32]) -> usize
     ensures { PutFew out.old out.new at (edges_text to.now marks.now) result (400 * length to.now) }
 {
     let mut next = at;
-    let mut i = 0;
-    while i < to.len() {
-        let target = to[i];
-        let set = marks[i];
-        next = put_edge(out, next, target, set);
-        i += 1;
+    for (target, set) in to.iter().zip(marks) {
+        next = put_edge(out, next, *target, *set);
     }
     next
 }
@@ -99,13 +93,11 @@ pub fn put_rows(out: &mut [u8], at: usize, n: u32, from: &[u32], to: &[u32], mar
     ensures { PutFew out.old out.new at (rows_text from.now to.now marks.now n) result 209920 }
 {
     let mut next = at;
-    let mut e: usize = 0;
-    let mut state: u32 = 0;
-    while state < n {
+    let mut e = 0;
+    for state in 0..n {
         let end = e + table::row::run(&from[e..], state);
         next = put_row(out, next, state, &to[e..end], &marks[e..end]);
         e = end;
-        state += 1;
     }
     next
 }

@@ -1,4 +1,7 @@
 -- Reading what was written gives the same (`reads_back`); the edges that come back are the table's own cells (`same_cells`). Assumes nothing.
+use Rattle.table.specs.Refusal.{refused}
+use Rattle.table.specs.declared.Refusal.{Refusal}
+use Rattle.std.specs.Prelude.{Result, Ok, Err}
 use mathlib.Core.Bool.{Bool, true, false, cond}
 use mathlib.Core.List.{List, [], ◌∷◌, ◌++◌, map, map-append}
 use mathlib.Core.Path.{◌≡◌, refl, sym, ap, ◌∙◌}
@@ -10,8 +13,6 @@ use lib.Seq.{take-suc, take-length}
 use borrow.Author.Tests.{ltb-false}
 use Rattle.marks.proofs.Cases.{either_false}
 use Rattle.table.specs.declared.Acceptance.{Acceptance}
-use Rattle.table.specs.declared.Finding.{Finding}
-use Rattle.table.specs.declared.Finding.TheVariants.{Sound, Refused}
 use Rattle.table.specs.Table.{lent}
 use Rattle.table.proofs.Sound.{sound_fit}
 use Rattle.job_text.specs.Value.{Edge}
@@ -38,18 +39,18 @@ reads_back =
 -- ---- every text that is written
 
 -- no first finding, and no second
-both_sound : (f g : Finding) → or_else f g ≡ Sound → (f ≡ Sound) × (g ≡ Sound)
-both_sound Sound g e = (refl, e)
-both_sound (Refused number place) g e = let z : ◌≡◌ {A = ℕ} 0 1 = cc in absurd (omega arith)
+both_sound : (f g : Result Unit Refusal) → or_else f g ≡ Ok tt → (f ≡ Ok tt) × (g ≡ Ok tt)
+both_sound (Ok done) g e = (refl, e)
+both_sound (Err cause) g e = let z : ◌≡◌ {A = ℕ} 0 1 = cc in absurd (omega arith)
 
 -- nothing was too large
-not_large : (b : Bool) (f : Finding) → cond b (Refused 42 0) f ≡ Sound → b ≡ false
+not_large : (b : Bool) (f : Result Unit Refusal) → cond b (refused 42 0) f ≡ Ok tt → b ≡ false
 not_large true f e = let z : ◌≡◌ {A = ℕ} 0 1 = cc in absurd (omega arith)
 not_large false f e = refl
 
 -- where the writer refuses nothing, with any room for the text, the text is read as the table and the condition
 pub written_back : (n start : ℕ) (from to marks : List ℕ) (c : Acceptance) (needs : List ℕ) (room : ℕ) → length needs ≡ most_pairs
-    → write_refusal (lent n start from to marks) c needs room ≡ Sound
+    → write_refusal (lent n start from to marks) c needs room ≡ Ok tt
     → read_hoa (hoa_text (lent n start from to marks) c needs) ≡ job (back_of n start from to marks c needs)
 written_back n start from to marks c needs room eight e =
     let passed = both_sound _ _ e in

@@ -1,9 +1,8 @@
 -- What comes back when a text that was written is read (docs/RULES.md, "The Hanoi format", the writer): "Reading what was written gives the same n, start,
 -- edges, condition and needs; Streett 0 comes back as Büchi 0". Assumes nothing.
-use Rattle.std.specs.Prelude.{◌≡◌, List, [], ◌∷◌, ◌++◌, map, ℕ, zero, suc, ◌≤◌, length, get_or}
+use Rattle.std.specs.Prelude.{◌≡◌, List, [], ◌∷◌, ◌++◌, map, ℕ, zero, suc, ◌≤◌, length, get_or, Ok}
 use Rattle.table.specs.declared.Acceptance.{Acceptance}
 use Rattle.table.specs.declared.Acceptance.TheVariants as acceptance
-use Rattle.table.specs.declared.Finding.TheVariants.{Sound}
 use Rattle.table.specs.Table.{lent}
 use Rattle.table.specs.Refusal.{refusal}
 use Rattle.job_text.specs.Value.{Edge}
@@ -50,5 +49,5 @@ back_of n start from to marks c needs =
 -- proofs/)
 pub record ReadsBack : Type 0 where
   pub back : (n start : ℕ) (from to marks : List ℕ) (c : Acceptance) (needs : List ℕ) → length needs ≡ most_pairs
-      → refusal (lent n start from to marks) c needs ≡ Sound → n ≤ most_written → length from ≤ most_written_edges
+      → refusal (lent n start from to marks) c needs ≡ Ok tt → n ≤ most_written → length from ≤ most_written_edges
       → read_hoa (hoa_text (lent n start from to marks) c needs) ≡ job (back_of n start from to marks c needs)

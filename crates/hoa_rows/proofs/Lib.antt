@@ -1,5 +1,3 @@
--- Closing: the number of a token behind `--END--`
-pub mod Closing
 -- Turning: one entry of the rows, and all of them
 pub mod Turning
 -- Worth: what rows that are read to their end keep is a table's worth

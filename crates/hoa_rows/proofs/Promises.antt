@@ -1,5 +1,6 @@
 -- What the promise comes to: two results that it allows are equal (`unique`), the rows of a text are never cut (`never_cut`), and what is handed over is
 -- sorted and a table's worth (`table`). Assumes nothing.
+use Rattle.std.specs.Prelude.{Result}
 use mathlib.Core.Path.{◌≡◌, refl, sym, ap, subst, ◌∙◌}
 use mathlib.Core.Bool.{Bool, true, false, false≢true}
 use mathlib.Core.List.{List, [], ◌∷◌, ◌++◌}
@@ -8,6 +9,7 @@ use native.Mathlib.Omega.{arith}
 use borrow.Author.Tests.{eqb-true}
 use lib.Dec.{eqb}
 use lib.ListN.{length, drop, length-drop}
+use Rattle.hoa_tokens.specs.declared.BadToken.{BadToken}
 use Rattle.hoa_tokens.specs.Token.{Token, int, word, header, str, aname, sign, body, end, abort, finish, bad}
 use Rattle.hoa_tokens.specs.Stream.{Placed, first, unless_finished, tokens_at, some as up_to}
 use Rattle.hoa_tokens.proofs.Sizes.{by_test}
@@ -30,7 +32,7 @@ use Rattle.hoa_rows.proofs.Handing.{sorted_all}
 
 -- ---- one result
 
-module _ (l : Limits) (text : List ℕ) (at : ℕ) (from to marks from₁ to₁ marks₁ from₂ to₂ marks₂ : List ℕ) (r₁ r₂ : RowsRead)
+module _ (l : Limits) (text : List ℕ) (at : ℕ) (from to marks from₁ to₁ marks₁ from₂ to₂ marks₂ : List ℕ) (r₁ r₂ : Result RowsRead BadToken)
     (h : RowsInto l text at from to marks from₁ to₁ marks₁ r₁) (k : RowsInto l text at from to marks from₂ to₂ marks₂ r₂) where
   pub unique : r₁ ≡ r₂
   unique = h.reading ∙ sym k.reading

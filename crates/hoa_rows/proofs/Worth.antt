@@ -1,4 +1,5 @@
 -- What rows that are read to their end keep is a table's worth: the machine's states all keep this promise (`worth`). Assumes nothing.
+use Rattle.std.specs.Prelude.{Option, Some, None}
 use mathlib.Core.Path.{◌≡◌, refl, ap}
 use mathlib.Core.Bool.{true, false, false≢true, cond, ◌||◌}
 use mathlib.Core.List.{List, [], ◌∷◌, ◌++◌}
@@ -20,8 +21,6 @@ use Rattle.hoa_tokens.specs.declared.Sign.{Sign}
 use Rattle.hoa_tokens.specs.declared.Sign.TheVariants as sign_is
 use Rattle.hoa_tokens.specs.Token.{Token, int, word, header, str, aname, sign, body, end, abort, finish, bad}
 use Rattle.hoa_tokens.specs.Stream.{Placed, tokens_at}
-use Rattle.hoa_step.specs.declared.Given.{Given}
-use Rattle.hoa_step.specs.declared.Given.TheVariants.{Not, Value}
 use Rattle.hoa_step.specs.Given.{not_below}
 use Rattle.hoa_step.specs.Machine.{End, go, done, wrong, done_at, wrong_at, cut, end_by, run, wants_int}
 use Rattle.hoa_label.specs.Labels as label
@@ -80,9 +79,9 @@ abbrev AllGood : Limits → List ℕ → ℕ → List Edge → Type 0
 AllGood l seen largest [] = Unit
 AllGood l seen largest (e ∷ es) = EdgeGood l seen largest e × AllGood l seen largest es
 
-abbrev Few : Given → ℕ → Type 0
-Few Not k = Unit
-Few (Value n) k = k ≤ n
+abbrev Few : Option ℕ → ℕ → Type 0
+Few None k = Unit
+Few (Some n) k = k ≤ n
 
 pub record Good (l : Limits) (b : Rows) : Type 0 where
   pub small : (q : ℕ) → came q b.seen ≡ true → q < most_job_states
@@ -151,9 +150,9 @@ all_append : (l : Limits) (seen : List ℕ) (m : ℕ) (es fs : List Edge) → Al
 all_append l seen m [] fs h k = k
 all_append l seen m (e ∷ es) fs h k = (h.0, all_append l seen m es fs h.1 k)
 
-few_more : (g : Given) (k : ℕ) → not_below k g ≡ false → Few g (suc k)
-few_more Not k h = tt
-few_more (Value n) k h = omega (arith, leb-false n k h)
+few_more : (g : Option ℕ) (k : ℕ) → not_below k g ≡ false → Few g (suc k)
+few_more None k h = tt
+few_more (Some n) k h = omega (arith, leb-false n k h)
 
 power_some : (k : ℕ) → 0 < 2 ^ k
 power_some k = pow_pos k
@@ -360,13 +359,13 @@ target_good l x b h to =
 -- ---- the end
 
 -- a number that is no larger than the largest, and below n if it was given, is below the number of rows
-below_states : (g : Given) (b : Rows) (n : ℕ) → wrong_end g b ≡ false → Few g (length b.seen) → not_below n g ≡ false → n ≤ b.largest → n < length b.seen
-below_states Not b n w f x o = omega (arith, leb-false (length b.seen) b.largest w)
-below_states (Value k) b n w f x o = omega (arith, leb-false k n x, ltb-false (length b.seen) k w)
+below_states : (g : Option ℕ) (b : Rows) (n : ℕ) → wrong_end g b ≡ false → Few g (length b.seen) → not_below n g ≡ false → n ≤ b.largest → n < length b.seen
+below_states None b n w f x o = omega (arith, leb-false (length b.seen) b.largest w)
+below_states (Some k) b n w f x o = omega (arith, leb-false k n x, ltb-false (length b.seen) k w)
 
-agrees_good : (g : Given) (start : ℕ) (b : Rows) → wrong_end g b ≡ false → Few g (length b.seen) → start ≤ b.largest → Agrees g start (length b.seen)
-agrees_good Not start b w f o = omega (arith, leb-false (length b.seen) b.largest w)
-agrees_good (Value n) start b w f o = omega (arith, ltb-false (length b.seen) n w)
+agrees_good : (g : Option ℕ) (start : ℕ) (b : Rows) → wrong_end g b ≡ false → Few g (length b.seen) → start ≤ b.largest → Agrees g start (length b.seen)
+agrees_good None start b w f o = omega (arith, leb-false (length b.seen) b.largest w)
+agrees_good (Some n) start b w f o = omega (arith, ltb-false (length b.seen) n w)
 
 module _ (l : Limits) (b : Rows) (g : Good l b) (w : wrong_end l.states b ≡ false) where
   edges_fit : (es : List Edge) → AllGood l b.seen b.largest es → AllFit (length b.seen) l.marks es
@@ -461,9 +460,9 @@ none_good l =
       room = omega arith;
     }
   where
-    few_none : (g : Given) → Few g 0
-    few_none Not = tt
-    few_none (Value n) = omega arith
+    few_none : (g : Option ℕ) → Few g 0
+    few_none None = tt
+    few_none (Some n) = omega arith
 
 -- what is read is a table's worth, whatever tokens it is read from
 pub worth_of : (l : Limits) (ps : List Placed) (k : Kept) (qs : List Placed) → run (row_step l) ps (entries (no_rows l.start)) ≡ done_at k qs → Worth l k

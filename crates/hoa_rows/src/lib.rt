@@ -9,18 +9,20 @@ mod reader;
 ghost use Rattle.hoa_rows.specs.Lent.{RowsInto};
 
 use crate::handed::hand_over;
-use crate::reader::{Ending, read_entries};
+use crate::reader::read_entries;
 use hoa_entry::Limits;
+use hoa_kept::held::no_rows;
+use hoa_tokens::BadToken;
 
-// What reading the rows gives: how many states and edges, or the refusal.
+// What rows that are read give: how many states and edges.
 #[derive(Clone, Copy)]
-pub enum RowsRead {
-    Kept { states: u32, edges: u32 },
-    Refused { number: u32, place: usize },
+pub struct RowsRead {
+    pub states: u32,
+    pub edges: u32,
 }
 
 // The rows behind `--BODY--` at a place of the text, their edges by states in the three lent tables with zeros after them; or the refusal, and the
-// tables as they were.
+// tables as they were. Tables that are too short are refused with 11 at place 0.
 pub fn read_rows(
     text: &[u8],
     at: usize,
@@ -28,23 +30,10 @@ pub fn read_rows(
     from: &mut [u32],
     to: &mut [u32],
     marks: &mut [u32],
-) -> RowsRead
+) -> Result<RowsRead, BadToken>
     ensures { RowsInto limits text.now at from.old to.old marks.old from.new to.new marks.new result }
 {
-    let mut tos = [0u32; 512];
-    let mut sets = [0u32; 512];
-    let mut firsts = [0usize; 256];
-    let mut ends = [0usize; 256];
-    match read_entries(
-        text,
-        at,
-        limits,
-        &mut tos,
-        &mut sets,
-        &mut firsts,
-        &mut ends,
-    ) {
-        Ending::Refused { number, place } => RowsRead::Refused { number, place },
-        Ending::Done { rows } => hand_over(rows, &firsts, &ends, &tos, &sets, from, to, marks),
-    }
+    let mut rows = no_rows(limits.start);
+    read_entries(text, at, limits, &mut rows)?;
+    hand_over(&rows, from, to, marks)
 }

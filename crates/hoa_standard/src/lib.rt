@@ -3,8 +3,8 @@
 // Four machines run side by side (specs/Machines.antt); since the first atoms tell the kinds apart, few states are met together, and each is one case here.
 #![tactic(auto)]
 
-ghost use Rattle.std.specs.Prelude.{◌≡◌, ◌+◌, ◌<◌};
-ghost use Rattle.hoa_standard.specs.inner.Sides.{AheadWithin, opened_to, inf_to, fin_to, truth_to, closed_to, and_to, or_to, first_pair, streett_past, closed_pair, closed_inf};
+ghost use Rattle.std.specs.Prelude.{◌≡◌, ◌<◌};
+ghost use Rattle.hoa_standard.specs.inner.Sides.{AheadWithin, opened_to, inf_to, fin_to, truth_to, closed_to, and_to, or_to, first_pair, streett_past, closed_pair};
 ghost use Rattle.hoa_standard.specs.inner.Sides.{is_lost_ahead, is_lost_past, bracket_room};
 
 // A token as a formula sees it: brackets, signs, the words it knows, any other word, a number, `--ABORT--`, anything else.
@@ -134,19 +134,14 @@ pub fn opened(a: Ahead, most: usize) -> Ahead
 fn first_pair(outer: usize, inner: usize, c: u32) -> Past
     ensures { result ≡ first_pair c outer inner }
 {
-    if outer == 0 {
-        if c == 2 {
-            return Past::Bare(inner);
-        }
-        return Past::Lost;
-    }
-    if c % 2 == 0 {
-        return Past::StreettInf {
+    match outer {
+        0 if c == 2 => Past::Bare(inner),
+        1.. if c % 2 == 0 => Past::StreettInf {
             whole: outer - 1,
             inner,
-        };
+        },
+        _ => Past::Lost,
     }
-    Past::Lost
 }
 
 // Behind the word Inf, in a formula with c marks.
@@ -154,15 +149,8 @@ pub fn begun_inf(a: Ahead, c: u32) -> Past
     ensures { result ≡ inf_to c a }
 {
     match a {
-        Ahead::Lost => Past::Lost,
-        Ahead::Start(d) => Past::Buchi(d),
-        Ahead::FirstOr {
-            outer,
-            whole: _,
-            inner,
-        } => first_pair(outer, inner, c),
-        Ahead::Buchi(d) => Past::Buchi(d),
-        Ahead::RabinFin { whole: _, plain: _ } => Past::Lost,
+        Ahead::Start(d) | Ahead::Buchi(d) => Past::Buchi(d),
+        Ahead::FirstOr { outer, inner, .. } => first_pair(outer, inner, c),
         Ahead::RabinInf {
             whole,
             plain,
@@ -172,8 +160,8 @@ pub fn begun_inf(a: Ahead, c: u32) -> Past
             plain,
             inner,
         },
-        Ahead::StreettFin { whole: _, plain: _ } => Past::Lost,
         Ahead::StreettInf { whole, inner } => Past::StreettInf { whole, inner },
+        Ahead::Lost | Ahead::RabinFin { .. } | Ahead::StreettFin { .. } => Past::Lost,
     }
 }
 
@@ -181,15 +169,13 @@ pub fn begun_inf(a: Ahead, c: u32) -> Past
 fn streett_fin(whole: usize, plain: usize) -> Past
     ensures { result ≡ streett_past whole plain }
 {
-    if whole == 0 {
-        return Past::Lost;
-    }
-    if plain == 0 {
-        return Past::Lost;
-    }
-    Past::StreettFin {
-        whole: whole - 1,
-        plain: plain - 1,
+    if whole == 0 || plain == 0 {
+        Past::Lost
+    } else {
+        Past::StreettFin {
+            whole: whole - 1,
+            plain: plain - 1,
+        }
     }
 }
 
@@ -198,30 +184,21 @@ pub fn begun_fin(a: Ahead) -> Past
     ensures { result ≡ fin_to a }
 {
     match a {
-        Ahead::Lost => Past::Lost,
         Ahead::Start(d) => Past::FirstFin(d),
-        Ahead::FirstOr {
-            outer: _,
-            whole,
-            inner,
-        } => Past::RabinPair {
+        Ahead::FirstOr { whole, inner, .. } => Past::RabinPair {
             whole,
             plain: inner,
             inner: 0,
         },
-        Ahead::Buchi(_) => Past::Lost,
         Ahead::RabinFin { whole, plain } => Past::RabinPair {
             whole,
             plain,
             inner: 0,
         },
-        Ahead::RabinInf {
-            whole: _,
-            plain: _,
-            inner: _,
-        } => Past::Lost,
         Ahead::StreettFin { whole, plain } => streett_fin(whole, plain),
-        Ahead::StreettInf { whole: _, inner: _ } => Past::Lost,
+        Ahead::Lost | Ahead::Buchi(_) | Ahead::RabinInf { .. } | Ahead::StreettInf { .. } => {
+            Past::Lost
+        }
     }
 }
 
@@ -229,72 +206,29 @@ pub fn begun_fin(a: Ahead) -> Past
 pub fn begun_truth(a: Ahead, c: u32, value: bool) -> Past
     ensures { result ≡ truth_to c value a }
 {
-    let Ahead::Start(depth) = a else {
-        return Past::Lost;
-    };
-    if c == 0 {
-        return Past::Truth { value, depth };
+    match a {
+        Ahead::Start(depth) if c == 0 => Past::Truth { value, depth },
+        _ => Past::Lost,
     }
-    Past::Lost
 }
 
 // A bracket is closed behind a part of a Rabin pair.
 fn closed_pair(whole: usize, plain: usize, inner: usize) -> Past
     ensures { result ≡ closed_pair whole plain inner }
 {
-    if 0 < inner {
-        return Past::RabinPair {
+    match (whole, plain, inner) {
+        (_, _, 1..) => Past::RabinPair {
             whole,
             plain,
             inner: inner - 1,
-        };
-    }
-    if whole == 0 {
-        return Past::Lost;
-    }
-    if plain == 0 {
-        return Past::RabinGroup(whole - 1);
-    }
-    Past::RabinPair {
-        whole: whole - 1,
-        plain: plain - 1,
-        inner: 0,
-    }
-}
-
-// A bracket is closed behind a truth value.
-fn closed_truth(value: bool, depth: usize) -> Past
-    ensures { result ≡ closed_to (Past.Truth value depth) }
-{
-    if depth == 0 {
-        return Past::Lost;
-    }
-    Past::Truth {
-        value,
-        depth: depth - 1,
-    }
-}
-
-// A bracket is closed behind one that holds a `|`.
-fn closed_group(whole: usize) -> Past
-    ensures { result ≡ closed_to (Past.RabinGroup whole) }
-{
-    if whole == 0 {
-        return Past::Lost;
-    }
-    Past::RabinGroup(whole - 1)
-}
-
-// A bracket is closed behind the Inf of a Streett pair: one around the Inf, or the pair's own.
-fn closed_inf(whole: usize, inner: usize) -> Past
-    ensures { result ≡ closed_inf whole inner }
-{
-    if inner == 0 {
-        return Past::StreettPair(whole);
-    }
-    Past::StreettInf {
-        whole,
-        inner: inner - 1,
+        },
+        (0, _, 0) => Past::Lost,
+        (_, 0, 0) => Past::RabinGroup(whole - 1),
+        (_, _, 0) => Past::RabinPair {
+            whole: whole - 1,
+            plain: plain - 1,
+            inner: 0,
+        },
     }
 }
 
@@ -303,40 +237,34 @@ pub fn closed(p: Past) -> Past
     ensures { result ≡ closed_to p }
 {
     match p {
-        Past::Lost => Past::Lost,
-        Past::Truth { value, depth } => closed_truth(value, depth),
-        Past::Buchi(d) => {
-            if d == 0 {
-                return Past::Lost;
-            }
-            Past::Buchi(d - 1)
-        }
-        Past::FirstFin(d) => {
-            if d == 0 {
-                return Past::Lost;
-            }
-            Past::FirstFin(d - 1)
-        }
+        Past::Lost
+        | Past::Truth { depth: 0, .. }
+        | Past::Buchi(0)
+        | Past::FirstFin(0)
+        | Past::RabinGroup(0)
+        | Past::StreettPair(0)
+        | Past::Bare(0) => Past::Lost,
+        Past::Truth { value, depth } => Past::Truth {
+            value,
+            depth: depth - 1,
+        },
+        Past::Buchi(d) => Past::Buchi(d - 1),
+        Past::FirstFin(d) => Past::FirstFin(d - 1),
         Past::RabinPair {
             whole,
             plain,
             inner,
         } => closed_pair(whole, plain, inner),
-        Past::RabinGroup(d) => closed_group(d),
+        Past::RabinGroup(d) => Past::RabinGroup(d - 1),
         Past::StreettFin { whole, plain } => streett_fin(whole, plain),
-        Past::StreettInf { whole, inner } => closed_inf(whole, inner),
-        Past::StreettPair(d) => {
-            if d == 0 {
-                return Past::Lost;
-            }
-            Past::StreettPair(d - 1)
-        }
-        Past::Bare(d) => {
-            if d == 0 {
-                return Past::Lost;
-            }
-            Past::Bare(d - 1)
-        }
+        // the pair's own bracket, or one around the Inf
+        Past::StreettInf { whole, inner: 0 } => Past::StreettPair(whole),
+        Past::StreettInf { whole, inner } => Past::StreettInf {
+            whole,
+            inner: inner - 1,
+        },
+        Past::StreettPair(d) => Past::StreettPair(d - 1),
+        Past::Bare(d) => Past::Bare(d - 1),
     }
 }
 
@@ -377,16 +305,11 @@ pub fn joined_or(p: Past) -> Ahead
         },
         Past::RabinPair {
             whole,
-            plain: _,
-            inner,
-        } => {
-            if inner == 0 {
-                return Ahead::RabinFin { whole, plain: 0 };
-            }
-            Ahead::Lost
-        }
+            inner: 0,
+            ..
+        } => Ahead::RabinFin { whole, plain: 0 },
         Past::RabinGroup(d) => Ahead::RabinFin { whole: d, plain: 0 },
-        Past::StreettFin { whole, plain: _ } => Ahead::StreettInf { whole, inner: 0 },
+        Past::StreettFin { whole, .. } => Ahead::StreettInf { whole, inner: 0 },
         _ => Ahead::Lost,
     }
 }
@@ -395,11 +318,11 @@ pub fn joined_or(p: Past) -> Ahead
 pub fn lost_ahead(a: Ahead) -> bool
     ensures { result ≡ is_lost_ahead a }
 {
-    if let Ahead::Lost = a { true } else { false }
+    matches!(a, Ahead::Lost)
 }
 
 pub fn lost_past(p: Past) -> bool
     ensures { result ≡ is_lost_past p }
 {
-    if let Past::Lost = p { true } else { false }
+    matches!(p, Past::Lost)
 }

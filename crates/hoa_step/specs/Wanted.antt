@@ -1,12 +1,10 @@
 -- What reading gives where an INT or a STRING is wanted. Assumes nothing.
-use Rattle.std.specs.Prelude.{◌≡◌, List, ◌∷◌, ℕ, ◌≤◌, ◌<◌, length}
+use Rattle.std.specs.Prelude.{◌≡◌, Result, Ok, Err, List, ◌∷◌, ℕ, ◌≤◌, ◌<◌, length}
 use Rattle.std.proofs.Math.Option.{Option, some, none}
 use Rattle.hoa_tokens.specs.Token.{Token, int, word, header, str, aname, sign, body, end, abort, finish, bad}
 use Rattle.hoa_tokens.specs.Stream.{Placed, placed, tokens_at}
-use Rattle.hoa_step.specs.declared.IntRead.{IntRead}
-use Rattle.hoa_step.specs.declared.IntRead.TheVariants as int_read
-use Rattle.hoa_step.specs.declared.TextRead.{TextRead}
-use Rattle.hoa_step.specs.declared.TextRead.TheVariants as text_read
+use Rattle.hoa_tokens.specs.declared.BadToken.{BadToken}
+use Rattle.hoa_step.specs.declared.IntAt.{IntAt}
 
 -- a token of the text from `at` on, and the tokens behind it
 pub record Next (text : List ℕ) (at p q : ℕ) (t : Token) : Type 0 where
@@ -51,9 +49,9 @@ pub record Faulty (text : List ℕ) (at : ℕ) (fault : Token → Option ℕ) (n
   pub is : tokens_at text at ≡ placed p next token ∷ rest
   pub faulty : fault token ≡ some n
 
-abbrev pub IntReads : List ℕ → ℕ → IntRead → Type 0
-IntReads text at (int_read.Value v p q) = Next text at p q (int v)
-IntReads text at (int_read.Refused n p) = Faulty text at int_fault n p
+abbrev pub IntReads : List ℕ → ℕ → Result IntAt BadToken → Type 0
+IntReads text at (Ok i) = Next text at i.place i.next (int i.value)
+IntReads text at (Err e) = Faulty text at int_fault e.number e.place
 
 -- a STRING, with its bytes
 pub record Quoted (text : List ℕ) (at q : ℕ) : Type 0 where
@@ -61,6 +59,6 @@ pub record Quoted (text : List ℕ) (at q : ℕ) : Type 0 where
   pub bytes : List ℕ
   pub there : Next text at place q (str bytes)
 
-abbrev pub TextReads : List ℕ → ℕ → TextRead → Type 0
-TextReads text at (text_read.Behind q) = Quoted text at q
-TextReads text at (text_read.Refused n p) = Faulty text at text_fault n p
+abbrev pub TextReads : List ℕ → ℕ → Result ℕ BadToken → Type 0
+TextReads text at (Ok q) = Quoted text at q
+TextReads text at (Err e) = Faulty text at text_fault e.number e.place

@@ -1,25 +1,21 @@
 -- From what the reader, the writer and the printer give to the whole promise. A text is read as its outcome says; so each lemma goes by the outcome,
 -- and the reading names the case. Rows 42 and 11 never come out: a job keeps the writer's limits, and the longest text fits. Assumes nothing.
+use Rattle.table.specs.declared.Refusal.{Refusal}
+use Rattle.std.specs.Prelude.{Result, Ok, Err}
 use mathlib.Core.Path.{◌≡◌, refl, sym, ap, ◌∙◌, subst}
 use mathlib.Core.List.{List, map}
 use Prim.Native.Nat.{ℕ, ◌-◌, ◌≤◌}
 use native.Mathlib.Omega.{arith}
 use lib.ListN.{length, take, drop, replicate, length-append, length-map}
 use borrow.Author.Tests.{le-ltb}
-use Rattle.table.specs.declared.Finding.{Finding}
-use Rattle.table.specs.declared.Finding.TheVariants.{Sound, Refused}
 use Rattle.table.specs.Table.{lent}
-use Rattle.table.specs.Refusal.{refusal}
+use Rattle.table.specs.Refusal.{refusal, refused}
 use Rattle.table.proofs.Sound.{sound_fit}
-use Rattle.answer_text.specs.declared.Printed.{Printed}
-use Rattle.answer_text.specs.declared.Printed.TheVariants as printed
 use Rattle.job_text.specs.declared.reader.Reading.{Reading}
 use Rattle.job_text.specs.Value.{Edge, pad_to}
 use Rattle.job_text.specs.Job.{most_job_edges, Job, Outcome, job, fault, read_job}
 use Rattle.job_text.specs.Reading.{reading_of, cells_of, Read}
 use Rattle.answer_text.specs.Printed.{refused_text, Prints}
-use Rattle.writing.specs.declared.Written.{Written}
-use Rattle.writing.specs.declared.Written.TheVariants as written
 use Rattle.writing.specs.Writing.{written_of, output_of}
 use Rattle.hoa_written.specs.Written.{hoa_text}
 use Rattle.hoa_written.specs.Writing.{most_bytes, write_refusal, Writes}
@@ -34,9 +30,9 @@ use Rattle.hoa_text.specs.Turned.{written_for, turned, Stands, Turned}
 -- ---- what the writer gives for a job
 
 -- the text stands in the output, or the refusal is the one to be told
-abbrev Wrote : Outcome → ℕ → List ℕ → Written → Type 0
-Wrote o column out (written.Text size) = Stands (turned o column) out size
-Wrote o column out (written.Refused number place) = turned o column ≡ refused_text number place 0
+abbrev Wrote : Outcome → ℕ → List ℕ → Result ℕ Refusal → Type 0
+Wrote o column out (Ok size) = Stands (turned o column) out size
+Wrote o column out (Err cause) = turned o column ≡ refused_text cause.number cause.place 0
 
 module _ (j : Job) (column : ℕ) (L : Limited j) (out : List ℕ) (wide : length out ≡ most_bytes) where
   text : List ℕ
@@ -46,7 +42,7 @@ module _ (j : Job) (column : ℕ) (L : Limited j) (out : List ℕ) (wide : lengt
   few = omega (arith, L.edges, length-map j.edges (λ (e : Edge). e.from))
 
   -- a text that is written fits
-  text_fits : refusal (job_table j) j.condition j.needs ≡ Sound → length text ≤ length out
+  text_fits : refusal (job_table j) j.condition j.needs ≡ Ok tt → length text ≤ length out
   unfolding text
   text_fits e =
       let from = edge_cells (λ e. e.from) j in
@@ -56,20 +52,20 @@ module _ (j : Job) (column : ℕ) (L : Limited j) (out : List ℕ) (wide : lengt
       omega (arith, wide, most_bytes_lem j.states j.start from to marks j.condition j.needs fit L.states few)
 
   -- the writer refuses as rows 1 to 7 do
-  only_rows : (f : Finding) → refusal (job_table j) j.condition j.needs ≡ f → write_refusal (job_table j) j.condition j.needs (length out) ≡ f
+  only_rows : (f : Result Unit Refusal) → refusal (job_table j) j.condition j.needs ≡ f → write_refusal (job_table j) j.condition j.needs (length out) ≡ f
   unfolding text
-  only_rows Sound e = rw (e, not_large (job_table j) L.states few, le-ltb (length out) (length text) (text_fits e))
-  only_rows (Refused number place) e = rw e
+  only_rows (Ok done) e = rw (e, not_large (job_table j) L.states few, le-ltb (length out) (length text) (text_fits e))
+  only_rows (Err cause) e = rw e
 
-  wrote_by : (f : Finding) {out' : List ℕ} {w : Written} → refusal (job_table j) j.condition j.needs ≡ f → w ≡ written_of text f → out' ≡ output_of text out f
+  wrote_by : (f : Result Unit Refusal) {out' : List ℕ} {w : Result ℕ Refusal} → refusal (job_table j) j.condition j.needs ≡ f → w ≡ written_of text f → out' ≡ output_of text out f
       → Wrote (job j) column out' w
   unfolding text
-  wrote_by Sound e a o =
-      let is : turned (job j) column ≡ text = ap (λ (f : Finding). written_for f text) e in
+  wrote_by (Ok done) e a o =
+      let is : turned (job j) column ≡ text = ap (λ (f : Result Unit Refusal). written_for f text) e in
       rw a (record { all = ap length (sym is); cells = o ∙ rw (is, wide) })
-  wrote_by (Refused number place) e a o = rw a (ap (λ (f : Finding). written_for f text) e)
+  wrote_by (Err cause) e a o = rw a (ap (λ (f : Result Unit Refusal). written_for f text) e)
 
-  wrote : {out' : List ℕ} {w : Written} → Writes (job_table j) j.condition j.needs out out' w → Wrote (job j) column out' w
+  wrote : {out' : List ℕ} {w : Result ℕ Refusal} → Writes (job_table j) j.condition j.needs out out' w → Wrote (job j) column out' w
   unfolding text
   wrote W =
       let f = refusal (job_table j) j.condition j.needs in
@@ -79,12 +75,12 @@ module _ (j : Job) (column : ℕ) (L : Limited j) (out : List ℕ) (wide : lengt
 -- ---- for any text that is read
 
 -- what the reader refuses
-refused_by : (o : Outcome) (r : Reading) (number place column : ℕ) → r ≡ reading_of o column → r.finding ≡ Refused number place
+refused_by : (o : Outcome) (r : Reading) (number place column : ℕ) → r ≡ reading_of o column → r.finding ≡ refused number place
     → turned o column ≡ refused_text number place column
 refused_by (job j) r number place column e f = absurd (unlike (sym f ∙ ap (λ (x : Reading). x.finding) e))
 refused_by (fault x p) r number place column e f = same_text (sym (ap (λ (x : Reading). x.finding) e) ∙ f) refl
 
-module _ (r : Reading) (from to marks out out' : List ℕ) (w : Written) where
+module _ (r : Reading) (from to marks out out' : List ℕ) (w : Result ℕ Refusal) where
   -- the writer's contract at what was lent to it: the parts of the tables that hold edges
   abbrev Lent : Type 0
   Lent =
@@ -99,36 +95,36 @@ module _ (r : Reading) (from to marks out out' : List ℕ) (w : Written) where
         rw (part_is (λ (e : Edge). e.from) j.edges, part_is (λ (e : Edge). e.to) j.edges, part_is (λ (e : Edge). e.marks) j.edges) at
         (rw (e, f, g, h) at W)
 
-  written_by : (o : Outcome) (b b' b'' : List ℕ) (column : ℕ) → Bounded o → r ≡ reading_of o column → r.finding ≡ Sound → from ≡ cells_of (λ e. e.from) o b
+  written_by : (o : Outcome) (b b' b'' : List ℕ) (column : ℕ) → Bounded o → r ≡ reading_of o column → r.finding ≡ Ok tt → from ≡ cells_of (λ e. e.from) o b
       → to ≡ cells_of (λ e. e.to) o b' → marks ≡ cells_of (λ e. e.marks) o b'' → length out ≡ most_bytes → Lent → Wrote o column out' w
   written_by (fault number place) b b' b'' column B e s f g h wide W = absurd (unlike (sym (ap (λ (x : Reading). x.finding) e) ∙ s))
   written_by (job j) b b' b'' column B e s f g h wide W = wrote j column B out wide (on_job j column e f g h W)
 
 module _ {text b b' b'' from to marks : List ℕ} {r : Reading} (R : Read text b b' b'' from to marks r) where
   -- the reader refuses, and the refusal stands in the output
-  pub refused_turned : {number place : ℕ} {out : List ℕ} {size : ℕ} → r.finding ≡ Refused number place → Stands (refused_text number place r.column) out size
+  pub refused_turned : {number place : ℕ} {out : List ℕ} {size : ℕ} → r.finding ≡ refused number place → Stands (refused_text number place r.column) out size
       → Turned text out size
   refused_turned {number} {place} f S =
       record { column = r.column; first = R.column; held = rw (refused_by (read_job text) r number place r.column R.reading f) S }
 
-  module _ {out out' : List ℕ} {w : Written} (sound : r.finding ≡ Sound) (wide : length out ≡ most_bytes) (W : Lent r from to marks out out' w) where
+  module _ {out out' : List ℕ} {w : Result ℕ Refusal} (sound : r.finding ≡ Ok tt) (wide : length out ≡ most_bytes) (W : Lent r from to marks out out' w) where
     here : Wrote (read_job text) r.column out' w
     here = written_by r from to marks out out' w (read_job text) b b' b'' r.column (read_bounded text) R.reading sound R.froms R.tos R.sets wide W
 
     -- the text stands in the output
-    pub text_turned : {size : ℕ} → w ≡ written.Text size → Turned text out' size
+    pub text_turned : {size : ℕ} → w ≡ Ok size → Turned text out' size
     text_turned e = record { column = r.column; first = R.column; held = subst (Wrote (read_job text) r.column out') e here }
 
     -- one of rows 1 to 7 refuses, and the refusal stands in the output
-    pub row_turned : {number place : ℕ} {out'' : List ℕ} {size : ℕ} → w ≡ written.Refused number place → Stands (refused_text number place 0) out'' size → Turned text out'' size
+    pub row_turned : {number place : ℕ} {out'' : List ℕ} {size : ℕ} → w ≡ refused number place → Stands (refused_text number place 0) out'' size → Turned text out'' size
     row_turned {number} {place} e S =
         let is : turned (read_job text) r.column ≡ refused_text number place 0 = subst (Wrote (read_job text) r.column out') e here in
         record { column = r.column; first = R.column; held = rw is S }
 
 -- ---- what is printed
 
-pub stands_whole : {text out out' : List ℕ} {r : Printed} {size : ℕ} → length out ≡ most_bytes → length text ≤ length out → Prints text out out' r
-    → r ≡ printed.Text size → Stands text out' size
+pub stands_whole : {text out out' : List ℕ} {r : Result ℕ Refusal} {size : ℕ} → length out ≡ most_bytes → length text ≤ length out → Prints text out out' r
+    → r ≡ Ok size → Stands text out' size
 stands_whole wide fits P e = let all = printed_all fits P e in record { all = all.0; cells = all.1 ∙ rw wide }
 
 -- what is written lies within what was lent

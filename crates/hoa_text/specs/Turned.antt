@@ -1,7 +1,6 @@
 -- From bytes to bytes: what a job text is turned into, every text (docs/RULES.md, "The Hanoi format", the writer). Assumes nothing.
-use Rattle.std.specs.Prelude.{◌≡◌, List, ◌++◌, ℕ, ◌-◌, length, replicate}
-use Rattle.table.specs.declared.Finding.{Finding}
-use Rattle.table.specs.declared.Finding.TheVariants.{Sound, Refused}
+use Rattle.table.specs.declared.Refusal.{Refusal}
+use Rattle.std.specs.Prelude.{◌≡◌, List, ◌++◌, ℕ, ◌-◌, length, replicate, Result, Ok, Err}
 use Rattle.table.specs.Refusal.{refusal}
 use Rattle.job_text.specs.Job.{Outcome, job, fault, read_job, Column}
 use Rattle.hoa_written.specs.Written.{hoa_text}
@@ -10,9 +9,9 @@ use Rattle.job_text.specs.Asked.{job_table}
 use Rattle.answer_text.specs.Printed.{refused_text}
 
 -- "the HOA text out, or the lines of the refusal": of rows 1 to 7, the only ones that a job can come to, with column 0
-abbrev pub written_for : Finding → List ℕ → List ℕ
-written_for Sound written = written
-written_for (Refused number place) written = refused_text number place 0
+abbrev pub written_for : Result Unit Refusal → List ℕ → List ℕ
+written_for (Ok done) written = written
+written_for (Err cause) written = refused_text cause.number cause.place 0
 
 -- "20 comes first", 21, 22 and 23 line by line: what the reader refuses is printed as it is, with the column of the first fault; what it reads
 -- is written

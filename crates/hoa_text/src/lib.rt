@@ -5,26 +5,21 @@
 ghost use Rattle.answer_text.specs.Printed.{refused_text};
 ghost use Rattle.hoa_text.specs.Turned.{Stands, Turned};
 
-use answer_text::{Printed, print_refused};
+use answer_text::print_refused;
 use hoa_writer::write_hoa;
 use job_text::reader::read;
-use table::Finding;
-use writing::Written;
 
 // No text that is written is longer: 256 states, 512 edges, 32 marks.
-pub const MOST_WRITTEN: usize = 52205;
+pub const MOST_WRITTEN: usize = hoa_writer::MOST_BYTES;
 
 // Prints a refusal's lines in place of the text.
 fn tell_refused(number: u32, place: u32, column: u32, out: &mut [u8; MOST_WRITTEN]) -> usize
     ensures { Stands (refused_text number place column) out.new result }
 {
     match print_refused(number, place, column, out) {
-        Printed::Text { length } => length,
+        Ok(length) => length,
         // never: they fit
-        Printed::Refused {
-            number: _,
-            place: _,
-        } => 0,
+        Err(_) => 0,
     }
 }
 
@@ -37,25 +32,22 @@ pub fn job_to_hoa(text: &[u8], out: &mut [u8; MOST_WRITTEN]) -> usize
     let mut to = [0u32; 512];
     let mut marks = [0u32; 512];
     let job = read(text, &mut from, &mut to, &mut marks);
-    let finding = job.finding;
-    if let Finding::Refused { number, place } = finding {
-        return tell_refused(number, place, job.column, out);
+    if let Err(cause) = job.finding {
+        return tell_refused(cause.number, cause.place, job.column, out);
     }
     let m = job.edges as usize;
-    let condition = job.condition;
-    let needs = job.needs;
     let written = write_hoa(
         job.states,
         job.start,
         &from[0..m],
         &to[0..m],
         &marks[0..m],
-        condition,
-        needs,
+        job.condition,
+        job.needs,
         out,
     );
     match written {
-        Written::Text { length } => length,
-        Written::Refused { number, place } => tell_refused(number, place, 0, out),
+        Ok(length) => length,
+        Err(cause) => tell_refused(cause.number, cause.place, 0, out),
     }
 }

@@ -6,7 +6,7 @@ use mathlib.Core.Option.{Option, some, none}
 use Prim.Native.Nat.{ℕ, ◌+◌, ◌-◌, ◌<◌}
 use native.Mathlib.Omega.{arith}
 use lib.Dec.{eqb}
-use lib.ListN.{length, get_or, take, drop, length-take, length-drop}
+use lib.ListN.{length, get_or, drop, length-drop}
 use lib.Seq.{drop-drop, get_or-drop}
 use borrow.Author.Tests.{eq-eqb, ne_eqb, eqb-true}
 use Rattle.hoa_tokens.specs.declared.Word.{Word}
@@ -21,7 +21,6 @@ use Rattle.hoa_tokens.specs.Token.{later, quoted, closed, at as alias, begins, f
 use Rattle.hoa_tokens.specs.Stream.{Gap, gap, unclosed, lost, behind, gap_of, placed, first_of, first, part, token_of, TokenAt}
 use Rattle.hoa_tokens.specs.inner.Reads.{RunTo, Says, Reads, gap_from}
 use Rattle.hoa_tokens.proofs.Sizes.{GapIn, gap_in, QuoteIn, quote_in, byte_in}
-use Rattle.hoa_tokens.proofs.Runs.{same_apart}
 use Rattle.hoa_tokens.proofs.Next.{found_at}
 
 -- what is found, by its parts
@@ -108,12 +107,6 @@ string_open text at l = go (quoted (drop (at + 1) text))
     go (some k) e = absurd (let z : ◌≡◌ {A = ℕ} 0 1 = cc in omega arith)
 
 -- ---- fixed texts and marks
-
--- too few bytes
-pub begins_short : (text key : List ℕ) (at : ℕ) → length text - at < length key → begins key (drop at text) ≡ false
-begins_short text key at l =
-    same_apart (take (length key) (drop at text)) key
-    (λ (e : length (take (length key) (drop at text)) ≡ length key). omega (arith, length-take (length key) (drop at text), length-drop at text))
 
 module _ (text : List ℕ) (at : ℕ) where
   -- `--BODY--`

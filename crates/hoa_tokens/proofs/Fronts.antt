@@ -2,7 +2,6 @@
 use mathlib.Core.Path.{◌≡◌}
 use mathlib.Core.Bool.{true, false}
 use mathlib.Core.List.{List}
-use mathlib.Core.Option.{none}
 use Prim.Native.Nat.{ℕ, ◌+◌, ◌≤◌, ◌<◌}
 use lib.ListN.{length, get_or, drop, drop_of_length-le}
 use borrow.Author.Tests.{eq-eqb, ne_eqb}
@@ -53,18 +52,3 @@ module _ (text : List ℕ) (i : ℕ) (l : i < length text) where
           pub front_single : (byte ≡ 45 → ⊥) → front (drop i text) ≡ single (sign_of byte)
           unfolding front
           front_single e = rw (here text i l, d, n, ne_eqb byte 34 q, ne_eqb byte 64 a, ne_eqb byte 45 e)
-
--- none of the marks, as a `match` on them leaves it
-abbrev pub NoMark : ℕ → Type 0
-NoMark b =
-    ((((((((Unit {0} × (b ≡ 40 → ⊥)) × (b ≡ 41 → ⊥)) × (b ≡ 91 → ⊥)) × (b ≡ 93 → ⊥)) × (b ≡ 123 → ⊥)) × (b ≡ 125 → ⊥)) × (b ≡ 38 → ⊥)) × (b ≡ 124 → ⊥)) × (b ≡ 33 → ⊥)
-
--- no other byte is a mark
-pub sign_none : (b : ℕ) → NoMark b → sign_of b ≡ none
-unfolding sign_of
-sign_none b n =
-    let brackets = n.0.0.0 in
-    let round = brackets.0.0.0.0 in
-    rw (ne_eqb b 40 round.0.1, ne_eqb b 41 round.1)
-    (rw (ne_eqb b 91 brackets.0.0.0.1, ne_eqb b 93 brackets.0.0.1, ne_eqb b 123 brackets.0.1, ne_eqb b 125 brackets.1)
-    (rw (ne_eqb b 38 n.0.0.1, ne_eqb b 124 n.0.1, ne_eqb b 33 n.1)))

@@ -1,18 +1,22 @@
 -- Blanks and comments at a place of a text: how the gap goes on there. Assumes nothing.
-use mathlib.Core.Path.{◌≡◌, refl, ap, ◌∙◌}
+use mathlib.Core.Path.{◌≡◌, refl, sym, ap, ◌∙◌}
 use mathlib.Core.Bool.{Bool, true, false, cond, ◌&&◌}
 use mathlib.Core.List.{List, [], ◌∷◌}
 use Prim.Native.Nat.{ℕ, zero, suc, ◌+◌, ◌-◌, ◌≤◌, ◌<◌}
 use native.Mathlib.Numerals.{add-one}
 use native.Mathlib.Omega.{arith}
 use lib.Dec.{eqb}
-use lib.ListN.{length, get_or, drop, drop_of_length-le, get_or-eq_default}
-use borrow.Author.Tests.{eq-eqb, ne_eqb}
-use Rattle.hoa_tokens.specs.Bytes.{is_blank}
+use lib.ListN.{length, get_or, take, drop, drop_of_length-le}
+use lib.Seq.{get_or-drop}
+use borrow.Author.Tests.{ne_eqb}
+use Rattle.std.specs.Prelude.{nat_eq}
+use Rattle.std.specs.List.{starts_with}
+use Rattle.hoa_tokens.specs.Bytes.{is_blank, same}
+use Rattle.hoa_tokens.specs.Token.{begins}
 use Rattle.hoa_tokens.specs.Stream.{Gap, gap, unclosed, lost, behind, opened, gap_of}
 use Rattle.hoa_tokens.specs.inner.Reads.{stand, gap_from}
 use Rattle.hoa_tokens.proofs.Sizes.{by_test, GapIn, gap_in}
-use Rattle.hoa_tokens.proofs.Runs.{here, second, behind_second}
+use Rattle.hoa_tokens.proofs.Runs.{here, second, behind_second, starts_begins}
 
 -- behind two stretches
 behind_add : (i k n : ℕ) (g : Gap) → n ≡ i + k → behind i (behind k g) ≡ behind n g
@@ -22,26 +26,25 @@ behind_add i k n lost e = refl
 
 -- ---- two bytes, one behind the other
 
-module _ (text : List ℕ) (i a b : ℕ) where
-  -- behind the text's end
-  pub stand_out : 0 < a → length text ≤ i → stand text i a b ≡ false
-  stand_out p l = rw (get_or-eq_default text 0 l, ne_eqb 0 a (λ (e : 0 ≡ a). omega arith))
-
-  -- another first byte
-  pub stand_other : (get_or text i 0 ≡ a → ⊥) → stand text i a b ≡ false
-  stand_other h = rw (ne_eqb (get_or text i 0) a h)
-
-  -- no second byte
-  pub stand_last : 0 < b → length text ≤ i + 1 → stand text i a b ≡ false
-  stand_last p l = rw (get_or-eq_default text 0 l, ne_eqb 0 b (λ (e : 0 ≡ b). omega arith)) (and_false (eqb (get_or text i 0) a))
+module _ (a b : ℕ) (some : 0 < a) (more : 0 < b) where
+  -- in front of bytes
+  pair_front : (bs : List ℕ) → begins (a ∷ b ∷ []) bs ≡ (eqb (get_or bs 0 0) a && eqb (get_or bs 1 0) b)
+  unfolding same
+  pair_front [] = rw (ne_eqb 0 a (λ (e : 0 ≡ a). omega arith))
+  pair_front (x ∷ []) = rw (ne_eqb 0 b (λ (e : 0 ≡ b). omega arith))
+  pair_front (x ∷ (y ∷ bs)) = ap (λ (t : Bool). eqb x a && t) (and_true (eqb y b))
     where
-      and_false : (t : Bool) → (t && false) ≡ false
-      and_false true = refl
-      and_false false = refl
+      and_true : (t : Bool) → (t && true) ≡ t
+      and_true true = refl
+      and_true false = refl
 
-  -- the second byte decides
-  pub stand_second : get_or text i 0 ≡ a → stand text i a b ≡ eqb (get_or text (i + 1) 0) b
-  stand_second e = rw (eq-eqb (get_or text i 0) a e)
+  -- at a place, as the library tells
+  pub stand_starts : (text : List ℕ) (i : ℕ) {r : Bool} → r ≡ starts_with nat_eq (take (length text - i) (drop i text)) (a ∷ b ∷ []) → stand text i a b ≡ r
+  stand_starts text i e =
+      let first : get_or (drop i text) 0 0 ≡ get_or text i 0 = get_or-drop i text 0 0 ∙ ap (λ (k : ℕ). get_or text k 0) (omega arith) in
+      let next : get_or (drop i text) 1 0 ≡ get_or text (i + 1) 0 = get_or-drop i text 1 0 in
+      let both = pair_front (drop i text) in
+      sym (rw (first, next) at both) ∙ starts_begins text i (a ∷ b ∷ []) e
 
 -- ---- the rules, at a place
 

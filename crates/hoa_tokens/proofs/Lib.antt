@@ -2,7 +2,7 @@
 pub mod Sizes
 -- Next: the tokens from a place on are the token that is found there, and those behind it; what a token takes
 pub mod Next
--- Runs: classes of bytes, runs and the same bytes, at a place of a text
+-- Runs: runs, the same bytes and keys, at a place of a text
 pub mod Runs
 -- Gaps: blanks and comments at a place of a text
 pub mod Gaps

@@ -1,36 +1,25 @@
--- Classes of bytes, runs and the same bytes, at a place of a text. Assumes nothing.
-use mathlib.Core.Path.{◌≡◌, refl, ap, ◌∙◌}
-use mathlib.Core.Bool.{Bool, true, false, ◌&&◌, ◌||◌}
+-- Runs, the same bytes and keys, at a place of a text. Assumes nothing.
+use mathlib.Core.Path.{◌≡◌, refl, sym, ap, ◌∙◌}
+use mathlib.Core.Bool.{Bool, true, false, cond, ◌&&◌}
 use mathlib.Core.List.{List, [], ◌∷◌}
-use Prim.Native.Nat.{ℕ, suc, ◌+◌, ◌≤◌, ◌<◌}
+use Prim.Native.Nat.{ℕ, suc, ◌+◌, ◌-◌, ◌≤◌, ◌<◌}
 use native.Mathlib.Numerals.{add-one}
 use native.Mathlib.Omega.{arith}
-use lib.Dec.{eqb, leb}
-use lib.ListN.{length, get_or, drop, drop_of_length-le, length-drop}
-use lib.Seq.{drop-cons, drop-drop, get_or-drop}
-use borrow.Author.Tests.{eq-eqb, ne_eqb, le-leb, lt-leb}
-use Rattle.hoa_tokens.specs.Bytes.{between, is_capital, is_letter, same, run}
+use lib.Dec.{eqb}
+use lib.ListN.{length, get_or, take, drop, length-drop}
+use lib.Seq.{take_all, drop-cons, drop-drop, get_or-drop}
+use borrow.Author.Tests.{eq-eqb, ne_eqb, eqb-true, eqb-false}
+use Rattle.std.specs.Prelude.{nat_eq, map}
+use Rattle.std.specs.List.{prefix_len, starts_with}
+use Rattle.std.specs.Cmp.Lexicographic.{pointwise}
+use Rattle.hoa_tokens.specs.Bytes.{same, run}
+use Rattle.hoa_tokens.specs.Token.{among, begins}
 use Rattle.hoa_tokens.specs.inner.Reads.{RunTo}
 use Rattle.hoa_tokens.proofs.Sizes.{by_test, run_le}
 
--- ---- classes
-
--- a byte from low to high, or not
-pub under : (low high b : ℕ) → b < low → between low high b ≡ false
-under low high b l = rw (lt-leb low b l)
-
--- from `low` on only `high` counts
-pub from : (low high b : ℕ) → low ≤ b → between low high b ≡ leb b high
-from low high b l = rw (le-leb low b l)
-
-or_false : (b : Bool) → (b || false) ≡ b
-or_false true = refl
-or_false false = refl
-
--- from `a` on only the small letters are letters
-pub letter_high : (b : ℕ) → is_capital b ≡ false → 97 ≤ b → is_letter b ≡ leb b 122
-unfolding is_letter
-letter_high b e l = rw (e, from 97 122 b l, ne_eqb b 95 (λ (q : b ≡ 95). omega arith)) (or_false (leb b 122))
+-- where both are turned
+eqb_turned : (x y : ℕ) → eqb x y ≡ eqb y x
+eqb_turned x y = by_test (eqb y x) (λ e. rw e (eq-eqb x y (sym (eqb-true y x e)))) (λ e. rw e (ne_eqb x y (λ q. eqb-false y x e (sym q))))
 
 -- ---- a place of a text
 
@@ -51,70 +40,61 @@ behind_second text i =
 
 -- ---- runs
 
-module _ (class : ℕ → Bool) (text : List ℕ) (at : ℕ) where
-  -- the run goes on at i
-  pub record Going (i : ℕ) : Type 0 where
-    pub low : at ≤ i
-    pub same : at + run class (drop at text) ≡ i + run class (drop i text)
+module _ (class : ℕ → Bool) where
+  -- as the library counts it
+  pub run_prefix : (bs : List ℕ) → prefix_len class bs ≡ run class bs
+  unfolding run
+  run_prefix [] = refl
+  run_prefix (b ∷ bs) = by_test (class b) (λ e. rw (e, run_prefix bs) (omega arith)) (λ e. rw e)
 
-  pub going : Going at
-  going = record { low = omega arith; same = refl }
-
-  -- a run ends within the text
-  high : (r : ℕ) → r ≡ at + run class (drop at text) → at ≤ length text → r ≤ length text
-  high r e l = omega (arith, run_le class (drop at text), length-drop at text)
-
-  module _ (i : ℕ) (g : Going i) where
-    -- a byte of the class
-    pub run_more : i < length text → class (get_or text i 0) ≡ true → Going (i + 1)
-    unfolding run
-    run_more l e =
-        let s : run class (drop i text) ≡ suc (run class (drop (i + 1) text)) = rw (here text i l, e) in
-        record { low = omega (arith, g.low); same = omega (arith, g.same, s) }
-
-    -- another byte
-    pub run_stop : i < length text → class (get_or text i 0) ≡ false → RunTo class text at i
-    unfolding run
-    run_stop l e =
-        let s : run class (drop i text) ≡ 0 = rw (here text i l, e) in
-        let p : i ≡ at + run class (drop at text) = omega (arith, g.same, s) in
-        record { place = p; low = g.low; high = high i p }
-
-    -- no byte
-    pub run_out : length text ≤ i → RunTo class text at i
-    unfolding run
-    run_out l =
-        let s : run class (drop i text) ≡ 0 = rw (drop_of_length-le text l) in
-        let p : i ≡ at + run class (drop at text) = omega (arith, g.same, s) in
-        record { place = p; low = g.low; high = high i p }
+  -- the run from a place of a text on
+  pub run_from : (text : List ℕ) (at size : ℕ) → at ≤ length text → size ≡ prefix_len class (take (length text - at) (drop at text)) → RunTo class text at (at + size)
+  run_from text at size l e =
+      let whole : take (length text - at) (drop at text) ≡ drop at text = take_all (length text - at) (drop at text) (omega (arith, length-drop at text)) in
+      let s : size ≡ run class (drop at text) = rw whole at e ∙ run_prefix (drop at text) in
+      record { place = omega arith; low = omega arith; high = λ h. omega (arith, run_le class (drop at text), length-drop at text) }
 
 -- ---- the same bytes
 
--- byte by byte
-same_step : (xs ys : List ℕ) (i : ℕ) → i < length xs → i < length ys
-    → same (drop i xs) (drop i ys) ≡ (eqb (get_or xs i 0) (get_or ys i 0) && same (drop (i + 1) xs) (drop (i + 1) ys))
+-- as `==` compares them
+pub same_pointwise : (xs ys : List ℕ) → same xs ys ≡ pointwise nat_eq xs ys
 unfolding same
-same_step xs ys i l k = rw (here xs i l, here ys i k)
+same_pointwise [] [] = refl
+same_pointwise [] (y ∷ ys) = refl
+same_pointwise (x ∷ xs) [] = refl
+same_pointwise (x ∷ xs) (y ∷ ys) = ap (λ (t : Bool). eqb x y && t) (same_pointwise xs ys)
 
--- the same byte at i: the rest decides
-pub same_more : (xs ys : List ℕ) (i : ℕ) → i < length xs → i < length ys → get_or xs i 0 ≡ get_or ys i 0
-    → same (drop i xs) (drop i ys) ≡ same (drop (i + 1) xs) (drop (i + 1) ys)
-same_more xs ys i l k e = same_step xs ys i l k ∙ rw (eq-eqb (get_or xs i 0) (get_or ys i 0) e)
+-- where both are turned
+pointwise_turned : (xs ys : List ℕ) → pointwise nat_eq xs ys ≡ pointwise nat_eq ys xs
+pointwise_turned [] [] = refl
+pointwise_turned [] (y ∷ ys) = refl
+pointwise_turned (x ∷ xs) [] = refl
+pointwise_turned (x ∷ xs) (y ∷ ys) = rw (eqb_turned x y, pointwise_turned xs ys)
 
--- another byte at i
-pub same_other : (xs ys : List ℕ) (i : ℕ) → i < length xs → i < length ys → (get_or xs i 0 ≡ get_or ys i 0 → ⊥)
-    → same (drop i xs) (drop i ys) ≡ false
-same_other xs ys i l k e = same_step xs ys i l k ∙ rw (ne_eqb (get_or xs i 0) (get_or ys i 0) e)
+-- a key stands at a place, as the library tells
+pub starts_begins : (text : List ℕ) (at : ℕ) (key : List ℕ) {r : Bool} → r ≡ starts_with nat_eq (take (length text - at) (drop at text)) key → begins key (drop at text) ≡ r
+starts_begins text at key e =
+    let whole : take (length text - at) (drop at text) ≡ drop at text = take_all (length text - at) (drop at text) (omega (arith, length-drop at text)) in
+    same_pointwise (take (length key) (drop at text)) key ∙ pointwise_turned (take (length key) (drop at text)) key ∙ sym (rw whole at e)
 
--- all bytes were the same
-pub same_end : (xs ys : List ℕ) (i : ℕ) → length xs ≤ i → length ys ≤ i → same (drop i xs) (drop i ys) ≡ true
-unfolding same
-same_end xs ys i l k = rw (drop_of_length-le xs l, drop_of_length-le ys k)
+-- ---- the first key that is the name
 
--- lists of two lengths are not the same
-pub same_apart : (xs ys : List ℕ) → (length xs ≡ length ys → ⊥) → same xs ys ≡ false
-unfolding same
-same_apart [] [] h = absurd (h refl)
-same_apart [] (y ∷ ys) h = refl
-same_apart (x ∷ xs) [] h = refl
-same_apart (x ∷ xs) (y ∷ ys) h = by_test (eqb x y) (λ e. rw e (same_apart xs ys (λ q. h (ap suc q)))) (λ e. rw e)
+module _ {X A : Type 0} (f : X → List ℕ × A) (bs : List ℕ) (xs : List X) (i : ℕ) (x : X) (other : A) (l : i < length xs) (is : x ≡ get_or xs i x) where
+  -- the key at i, and those behind it
+  among_here : among bs (map f (drop i xs)) other ≡ cond (same bs (f x).0) (f x).1 (among bs (map f (drop (i + 1) xs)) other)
+  among_here =
+      ap (λ (ys : List X). among bs (map f ys) other) (drop-cons xs i x l)
+      ∙ ap (λ (y : X). cond (same bs (f y).0) (f y).1 (among bs (map f (drop (suc i) xs)) other)) (sym is)
+      ∙ ap (λ (k : ℕ). cond (same bs (f x).0) (f x).1 (among bs (map f (drop k xs)) other)) (sym (add-one i))
+
+  module _ {r : Bool} (e : r ≡ pointwise nat_eq bs (f x).0) where
+    tested : same bs (f x).0 ≡ r
+    tested = same_pointwise bs (f x).0 ∙ sym e
+
+    -- it is the name
+    pub among_found : r ≡ true → among bs (map f (drop i xs)) other ≡ (f x).1
+    among_found q = among_here ∙ rw (tested, q)
+
+    -- it is not
+    pub among_other : r ≡ false → among bs (map f (drop i xs)) other ≡ among bs (map f (drop (i + 1) xs)) other
+    among_other q = among_here ∙ rw (tested, q)

@@ -1,8 +1,9 @@
 -- The tokens of a text with their places (docs/RULES.md, "The Hanoi format", tokens). Assumes nothing.
-use Rattle.std.specs.Prelude.{cond, ◌&&◌, List, [], ◌∷◌, ◌≡◌, ℕ, zero, suc, ◌+◌, ◌-◌, ◌≤◌, eqb, length, take, drop}
+use Rattle.std.specs.Prelude.{Result, Err, cond, ◌&&◌, List, [], ◌∷◌, ◌≡◌, ℕ, zero, suc, ◌+◌, ◌-◌, ◌≤◌, eqb, length, take, drop}
 use Rattle.hoa_tokens.specs.declared.Kind.{Kind}
 use Rattle.hoa_tokens.specs.declared.Kind.TheVariants as kind_is
 use Rattle.hoa_tokens.specs.declared.Found.{Found}
+use Rattle.hoa_tokens.specs.declared.BadToken.{BadToken}
 use Rattle.hoa_tokens.specs.Bytes.{is_blank}
 use Rattle.hoa_tokens.specs.Token.{Token, int, word, header, str, aname, sign, body, end, abort, finish, bad, front}
 
@@ -116,3 +117,9 @@ pub record TokenAt (text : List ℕ) (at : ℕ) (f : Found) : Type 0 where
   pub behind_at : at ≤ f.first
   pub behind_first : f.first ≤ f.next
   pub within : at ≤ length text → f.next ≤ length text
+
+-- ---- refusals
+
+-- a refusal with a fault's number, of the token at a place
+abbrev pub bad_at : {T : Type 0} → ℕ → ℕ → Result T BadToken
+bad_at n p = Err (record { number = n; place = p })

@@ -1,59 +1,38 @@
 // The token at a place where neither a blank nor a comment stands. Relies on `bytes`, `name`, `number` and `string`.
-ghost use Rattle.std.specs.Prelude.{◌≡◌, ◌≤◌, ◌<◌, length, drop};
-ghost use Rattle.hoa_tokens.specs.Token.{begins as begins_with, fixed as fixed_token, sign_of, single as single_token, front as front_token};
+ghost use Rattle.std.specs.Prelude.{◌<◌, length, drop};
+ghost use Rattle.hoa_tokens.specs.Token.{fixed as fixed_token, sign_of, single as single_token, front as front_token};
 ghost use Rattle.hoa_tokens.specs.inner.Reads.{Reads, Says};
 
-use crate::bytes::{alike, is_digit, is_letter};
+use crate::bytes::{is_digit, is_letter};
 use crate::name::{alias, named};
 use crate::number::number;
 use crate::string::string;
 use crate::{Found, Kind, Sign};
-
-// Whether the key stands at `at`.
-fn begins(text: &[u8], at: usize, key: &[u8]) -> bool
-    requires { at ≤ length text.now }
-    ensures { result ≡ begins_with key.now (drop at text.now) }
-{
-    if text.len() - at < key.len() {
-        return false;
-    }
-    alike(&text[at..at + key.len()], key)
-}
 
 // `--BODY--`, `--END--` or `--ABORT--` at `at`, or a byte that begins none.
 fn fixed(text: &[u8], at: usize) -> Found
     requires { at < length text.now }
     ensures { Reads text.now at result (fixed_token (drop at text.now)) }
 {
-    if begins(text, at, b"--BODY--") {
-        return Found {
-            first: at,
-            next: at + 8,
-            kind: Kind::Body,
-        };
-    }
-    if begins(text, at, b"--END--") {
-        return Found {
-            first: at,
-            next: at + 7,
-            kind: Kind::End,
-        };
-    }
-    if begins(text, at, b"--ABORT--") {
-        return Found {
-            first: at,
-            next: at + 9,
-            kind: Kind::Abort,
-        };
-    }
+    let rest = &text[at..];
+    let (kind, size) = if rest.starts_with(b"--BODY--") {
+        (Kind::Body, 8)
+    } else if rest.starts_with(b"--END--") {
+        (Kind::End, 7)
+    } else if rest.starts_with(b"--ABORT--") {
+        (Kind::Abort, 9)
+    } else {
+        (Kind::Bad, 1)
+    };
     Found {
         first: at,
-        next: at + 1,
-        kind: Kind::Bad,
+        next: at + size,
+        kind,
     }
 }
 
 // A mark of one byte, or a byte that begins no token.
+#[tactic(auto, unfolding(crate::specs::Token::sign_of))]
 fn single(byte: u8) -> Kind
     ensures { Says result (single_token (sign_of byte)).token }
 {
@@ -82,26 +61,16 @@ pub(crate) fn front(text: &[u8], at: usize) -> Found
             kind: Kind::Finish,
         };
     }
-    let byte = text[at];
-    if is_digit(byte) {
-        return number(text, at);
-    }
-    if is_letter(byte) {
-        return named(text, at);
-    }
-    if byte == b'"' {
-        return string(text, at);
-    }
-    if byte == b'@' {
-        return alias(text, at);
-    }
-    if byte == b'-' {
-        return fixed(text, at);
-    }
-    let kind = single(byte);
-    Found {
-        first: at,
-        next: at + 1,
-        kind,
+    match text[at] {
+        byte if is_digit(byte) => number(text, at),
+        byte if is_letter(byte) => named(text, at),
+        b'"' => string(text, at),
+        b'@' => alias(text, at),
+        b'-' => fixed(text, at),
+        byte => Found {
+            first: at,
+            next: at + 1,
+            kind: single(byte),
+        },
     }
 }

@@ -2,7 +2,7 @@
 // What the tokens of a text are is in specs/.
 #![tactic(auto)]
 
-pub mod bytes;
+mod bytes;
 mod front;
 mod gap;
 mod name;
@@ -12,7 +12,7 @@ mod string;
 ghost use Rattle.hoa_tokens.specs.Stream.{TokenAt};
 
 use crate::front::front;
-use crate::gap::{Ahead, skip};
+use crate::gap::skip;
 
 // A word; what the grammar asks for by name is told apart.
 #[derive(Clone, Copy)]
@@ -81,13 +81,20 @@ pub struct Found {
     pub kind: Kind,
 }
 
+// The token at which a text is refused: the number of the fault, and its first byte.
+#[derive(Clone, Copy)]
+pub struct BadToken {
+    pub number: u32,
+    pub place: usize,
+}
+
 // The first token of the text from `at` on.
 pub fn token_at(text: &[u8], at: usize) -> Found
     ensures { TokenAt text.now at result }
 {
     match skip(text, at) {
-        Ahead::Clear(i) => front(text, i),
-        Ahead::Unclosed(i) => Found {
+        Ok(i) => front(text, i),
+        Err(i) => Found {
             first: i,
             next: text.len(),
             kind: Kind::Bad,

@@ -1,101 +1,88 @@
 // Words, headers and the names of aliases. Relies on `bytes`.
-ghost use Rattle.std.specs.Prelude.{◌≡◌, ◌+◌, ◌≤◌, ◌<◌, eqb, length, drop, get_or};
-ghost use Rattle.hoa_tokens.specs.Token.{word_of, unknown as unknown_header, further_header, header_of, named as named_token, at as at_token};
-ghost use Rattle.hoa_tokens.specs.inner.Reads.{Reads};
+ghost use Rattle.std.specs.Prelude.{◌≡◌, map, ◌+◌, ◌≤◌, ◌<◌, eqb, length, drop, get_or};
+ghost use Rattle.std.specs.List.{prefix_len};
+ghost use Rattle.hoa_tokens.specs.Bytes.{is_name};
+ghost use Rattle.hoa_tokens.specs.Token.{among, word_of, unknown as unknown_header, header_of, named as named_token, at as at_token};
+ghost use Rattle.hoa_tokens.specs.inner.Reads.{lent_key, Reads};
 
-use crate::bytes::{Class, alike, is_capital, run_end};
+use crate::bytes::{is_capital, is_name};
 use crate::{Found, Header, Kind, Word};
 
+// What the first key that is the name stands for, or `other`.
+fn among<T: Copy>(name: &[u8], keys: &[(&[u8], T)], other: T) -> T
+    ensures { result ≡ among name.now (map lent_key keys.now) other }
+{
+    for (key, value) in keys {
+        if name == *key {
+            return *value;
+        }
+    }
+    other
+}
+
+// The words that the grammar asks for by name.
+const WORDS: [(&[u8], Word); 5] = [
+    (b"t", Word::True),
+    (b"f", Word::False),
+    (b"v1", Word::V1),
+    (b"Inf", Word::Inf),
+    (b"Fin", Word::Fin),
+];
+
+// The headers that the grammar knows, without their `:`.
+const HEADERS: [(&[u8], Header); 11] = [
+    (b"HOA", Header::Hoa),
+    (b"States", Header::States),
+    (b"Start", Header::Start),
+    (b"AP", Header::Ap),
+    (b"Acceptance", Header::Acceptance),
+    (b"State", Header::State),
+    (b"acc-name", Header::AccName),
+    (b"tool", Header::Tool),
+    (b"name", Header::Name),
+    (b"properties", Header::Properties),
+    (b"Alias", Header::Alias),
+];
+
 // The word with this text.
+#[tactic(auto, unfolding(crate::specs::Token::word_of, crate::specs::Bytes::bytes))]
 fn word_of(name: &[u8]) -> Word
     ensures { result ≡ word_of name.now }
 {
-    if alike(name, b"t") {
-        return Word::True;
-    }
-    if alike(name, b"f") {
-        return Word::False;
-    }
-    if alike(name, b"v1") {
-        return Word::V1;
-    }
-    if alike(name, b"Inf") {
-        return Word::Inf;
-    }
-    if alike(name, b"Fin") {
-        return Word::Fin;
-    }
-    Word::Other
+    among(name, &WORDS, Word::Other)
 }
 
 // A header that the grammar does not know.
+#[tactic(auto, unfolding(crate::specs::Bytes::is_capital))]
 fn unknown(name: &[u8]) -> Header
     ensures { result ≡ unknown_header name.now }
 {
-    if name.len() == 0 {
-        return Header::Lower;
+    match name {
+        [first, ..] if is_capital(*first) => Header::Capital,
+        _ => Header::Lower,
     }
-    if is_capital(name[0]) {
-        return Header::Capital;
-    }
-    Header::Lower
-}
-
-// The header with this text, if it is none of `header_of`'s own.
-fn further_header(name: &[u8]) -> Header
-    ensures { result ≡ further_header name.now }
-{
-    if alike(name, b"acc-name") {
-        return Header::AccName;
-    }
-    if alike(name, b"tool") {
-        return Header::Tool;
-    }
-    if alike(name, b"name") {
-        return Header::Name;
-    }
-    if alike(name, b"properties") {
-        return Header::Properties;
-    }
-    if alike(name, b"Alias") {
-        return Header::Alias;
-    }
-    unknown(name)
 }
 
 // The header with this text, its `:` left out.
+#[tactic(auto, unfolding(crate::specs::Token::header_of, crate::specs::Token::further_header, crate::specs::Bytes::bytes))]
 fn header_of(name: &[u8]) -> Header
     ensures { result ≡ header_of name.now }
 {
-    if alike(name, b"HOA") {
-        return Header::Hoa;
-    }
-    if alike(name, b"States") {
-        return Header::States;
-    }
-    if alike(name, b"Start") {
-        return Header::Start;
-    }
-    if alike(name, b"AP") {
-        return Header::Ap;
-    }
-    if alike(name, b"Acceptance") {
-        return Header::Acceptance;
-    }
-    if alike(name, b"State") {
-        return Header::State;
-    }
-    further_header(name)
+    among(name, &HEADERS, unknown(name))
+}
+
+// How many bytes with which a word may go on stand in front.
+fn name_size(text: &[u8]) -> usize
+    ensures { result ≡ prefix_len is_name text.now }
+{
+    text.iter().take_while(|byte| is_name(**byte)).count()
 }
 
 // Whether a `:` stands at `at`.
 fn has_colon(text: &[u8], at: usize) -> bool
     ensures { result ≡ eqb (get_or text.now at 0) 58 }
 {
-    if text.len() <= at {
-        return false;
-    }
-    text[at] == b':'
+    at < text.len() && text[at] == b':'
 }
 
 // The word or header at `at`.
@@ -103,19 +90,20 @@ pub(crate) fn named(text: &[u8], at: usize) -> Found
     requires { at ≤ length text.now }
     ensures { Reads text.now at result (named_token (drop at text.now)) }
 {
-    let next = run_end(text, at, Class::Names);
+    let next = at + name_size(&text[at..]);
     let name = &text[at..next];
     if has_colon(text, next) {
-        return Found {
+        Found {
             first: at,
             next: next + 1,
             kind: Kind::Header(header_of(name)),
-        };
-    }
-    Found {
-        first: at,
-        next,
-        kind: Kind::Word(word_of(name)),
+        }
+    } else {
+        Found {
+            first: at,
+            next,
+            kind: Kind::Word(word_of(name)),
+        }
     }
 }
 
@@ -124,17 +112,11 @@ pub(crate) fn alias(text: &[u8], at: usize) -> Found
     requires { at < length text.now }
     ensures { Reads text.now at result (at_token (drop (at + 1) text.now)) }
 {
-    let next = run_end(text, at + 1, Class::Names);
-    if next == at + 1 {
-        return Found {
-            first: at,
-            next,
-            kind: Kind::Bad,
-        };
-    }
+    let size = name_size(&text[at + 1..]);
+    let kind = if size == 0 { Kind::Bad } else { Kind::Alias };
     Found {
         first: at,
-        next,
-        kind: Kind::Alias,
+        next: at + 1 + size,
+        kind,
     }
 }

@@ -1,36 +1,40 @@
 // Numbers: a run of digits and its value. Relies on `bytes`.
 ghost use Rattle.std.specs.Prelude.{◌≡◌, ◌-◌, ◌≤◌, length, drop};
+ghost use Rattle.std.specs.List.{prefix_len};
+ghost use Rattle.hoa_tokens.specs.Bytes.{is_digit};
 ghost use Rattle.hoa_tokens.specs.Token.{spelt, digits as digits_token, number as number_token};
 ghost use Rattle.hoa_tokens.specs.inner.Reads.{Says, of_value, Reads};
 
-use crate::bytes::{Class, run_end};
+use crate::bytes::is_digit;
 use crate::{Found, Kind};
 
 // Every number is below this.
 const INT_LIMIT: u64 = 2147483648;
 
+// How many digits stand in front.
+fn digits_size(text: &[u8]) -> usize
+    ensures { result ≡ prefix_len is_digit text.now }
+{
+    text.iter().take_while(|byte| is_digit(**byte)).count()
+}
+
 // What the byte is worth as a digit.
 fn worth(byte: u8) -> u64
     ensures { result ≡ byte - 48 }
 {
-    if byte < b'0' {
-        return 0;
-    }
-    (byte - b'0') as u64
+    u64::from(byte.saturating_sub(b'0'))
 }
 
 // The number that the digits spell, if it is below 2^31.
 fn spell(digits: &[u8]) -> Kind
     ensures { Says result (of_value (spelt 0 digits.now)) }
 {
-    let mut value: u64 = 0;
-    let mut i = 0;
-    while i < digits.len() {
-        value = value * 10 + worth(digits[i]);
+    let mut value = 0;
+    for digit in digits {
+        value = value * 10 + worth(*digit);
         if INT_LIMIT <= value {
             return Kind::Bad;
         }
-        i += 1;
     }
     Kind::Int(value as u32)
 }
@@ -39,13 +43,11 @@ fn spell(digits: &[u8]) -> Kind
 fn digits_kind(digits: &[u8]) -> Kind
     ensures { Says result (digits_token digits.now) }
 {
-    if digits.len() <= 1 {
-        return spell(digits);
+    if 1 < digits.len() && digits[0] == b'0' {
+        Kind::Bad
+    } else {
+        spell(digits)
     }
-    if digits[0] == b'0' {
-        return Kind::Bad;
-    }
-    spell(digits)
 }
 
 // The number at `at`: the whole run of digits.
@@ -53,11 +55,10 @@ pub(crate) fn number(text: &[u8], at: usize) -> Found
     requires { at ≤ length text.now }
     ensures { Reads text.now at result (number_token (drop at text.now)) }
 {
-    let next = run_end(text, at, Class::Digits);
-    let kind = digits_kind(&text[at..next]);
+    let next = at + digits_size(&text[at..]);
     Found {
         first: at,
         next,
-        kind,
+        kind: digits_kind(&text[at..next]),
     }
 }

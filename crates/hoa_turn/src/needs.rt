@@ -17,14 +17,12 @@ fn needed(n: Needs) -> Needs
     requires { Room n }
     ensures { result ≡ needed_to n }
 {
-    let pairs = n.pairs;
-    let mut needs = n.needs;
-    if pairs == 0 {
+    if n.pairs == 0 {
         return n;
     }
-    let last = (pairs - 1) as usize;
-    needs[last] = needs[last] + 1;
-    Needs { pairs, needs }
+    let mut needs = n.needs;
+    needs[(n.pairs - 1) as usize] += 1;
+    Needs { needs, ..n }
 }
 
 // One pair more, which needs nothing yet.
@@ -32,10 +30,9 @@ fn begun(n: Needs) -> Needs
     requires { n.pairs < 8 }
     ensures { result ≡ begun_to n }
 {
-    let needs = n.needs;
     Needs {
         pairs: n.pairs + 1,
-        needs,
+        ..n
     }
 }
 
@@ -47,27 +44,9 @@ pub fn counted(n: Needs, c: u32, atoms: u32, stage: Stage, p: Piece) -> Needs
     if c <= atoms {
         return n;
     }
-    let Stage::Operand(a) = stage else {
-        return n;
-    };
-    match p {
-        Piece::Fin => {
-            if opens_pair(a) {
-                return begun(n);
-            }
-            n
-        }
-        Piece::Inf => {
-            if let Ahead::RabinInf {
-                whole: _,
-                plain: _,
-                inner: _,
-            } = a
-            {
-                return needed(n);
-            }
-            n
-        }
+    match (stage, p) {
+        (Stage::Operand(a), Piece::Fin) if opens_pair(a) => begun(n),
+        (Stage::Operand(Ahead::RabinInf { .. }), Piece::Inf) => needed(n),
         _ => n,
     }
 }

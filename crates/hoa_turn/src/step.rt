@@ -49,170 +49,143 @@ pub enum Turn {
 fn refusal(p: Piece) -> u32
     ensures { result ≡ astray p }
 {
-    if let Piece::Abort = p { SUBSET } else { SYNTAX }
+    match p {
+        Piece::Abort => SUBSET,
+        _ => SYNTAX,
+    }
 }
 
 // Whether a pair's Fin may come next.
 pub(crate) fn opens_pair(a: Ahead) -> bool
     ensures { result ≡ opens_pair_ahead a }
 {
-    match a {
-        Ahead::Start(_) => true,
-        Ahead::FirstOr {
-            outer: _,
-            whole: _,
-            inner: _,
-        } => true,
-        Ahead::RabinFin { whole: _, plain: _ } => true,
-        _ => false,
-    }
+    matches!(
+        a,
+        Ahead::Start(_) | Ahead::FirstOr { .. } | Ahead::RabinFin { .. }
+    )
 }
 
 // An operand is expected next, if some kind admits it and no ninth pair would begin.
-fn go_ahead(depth: usize, atoms: u32, a: Ahead, pairs: u32) -> Turn
-    ensures { result ≡ go_ahead depth atoms a pairs }
+fn go_ahead(f: Formula, a: Ahead, pairs: u32) -> Turn
+    ensures { result ≡ go_ahead f.depth f.atoms a pairs }
 {
     if lost_ahead(a) {
         return Turn::Wrong(SUBSET);
     }
-    if MOST_PAIRS <= pairs {
-        if opens_pair(a) {
-            return Turn::Wrong(LIMIT);
-        }
+    if MOST_PAIRS <= pairs && opens_pair(a) {
+        return Turn::Wrong(LIMIT);
     }
     Turn::Go(Formula {
-        depth,
-        atoms,
         stage: Stage::Operand(a),
+        ..f
     })
 }
 
 // An atom has begun, if it is no more than the c-th and some kind admits it.
-fn go_named(c: u32, depth: usize, atoms: u32, p: Past) -> Turn
-    ensures { result ≡ go_named c depth atoms p }
+fn go_named(c: u32, f: Formula, p: Past) -> Turn
+    ensures { result ≡ go_named c f.depth f.atoms p }
 {
-    if c <= atoms {
-        return Turn::Wrong(SUBSET);
-    }
-    if lost_past(p) {
+    if c <= f.atoms || lost_past(p) {
         return Turn::Wrong(SUBSET);
     }
     Turn::Go(Formula {
-        depth,
-        atoms: atoms + 1,
+        atoms: f.atoms + 1,
         stage: Stage::Named(p),
+        ..f
     })
 }
 
 // Behind an operand, if some kind admits it.
-fn go_past(depth: usize, atoms: u32, p: Past) -> Turn
-    ensures { result ≡ go_past depth atoms p }
+fn go_past(f: Formula, p: Past) -> Turn
+    ensures { result ≡ go_past f.depth f.atoms p }
 {
     if lost_past(p) {
         return Turn::Wrong(SUBSET);
     }
     Turn::Go(Formula {
-        depth,
-        atoms,
         stage: Stage::After(p),
+        ..f
     })
 }
 
 // Where an operand is expected.
-fn on_operand(c: u32, depth: usize, atoms: u32, a: Ahead, p: Piece, pairs: u32, most: usize) -> Turn
-    requires { (depth ≤ most) × AheadWithin most a × (p ≡ Piece.Left → most < bracket_room) }
-    ensures { result ≡ on_operand c depth atoms a p pairs }
+fn on_operand(c: u32, f: Formula, a: Ahead, p: Piece, pairs: u32, most: usize) -> Turn
+    requires { (f.depth ≤ most) × AheadWithin most a × (p ≡ Piece.Left → most < bracket_room) }
+    ensures { result ≡ on_operand c f.depth f.atoms a p pairs }
 {
     match p {
-        Piece::Left => go_ahead(depth + 1, atoms, opened(a, most), pairs),
-        Piece::Inf => go_named(c, depth, atoms, begun_inf(a, c)),
-        Piece::Fin => go_named(c, depth, atoms, begun_fin(a)),
-        Piece::Truth(value) => go_past(depth, atoms, begun_truth(a, c, value)),
+        Piece::Left => {
+            let inside = Formula {
+                depth: f.depth + 1,
+                ..f
+            };
+            go_ahead(inside, opened(a, most), pairs)
+        }
+        Piece::Inf => go_named(c, f, begun_inf(a, c)),
+        Piece::Fin => go_named(c, f, begun_fin(a)),
+        Piece::Truth(value) => go_past(f, begun_truth(a, c, value)),
         Piece::Name => Turn::Wrong(SUBSET),
         _ => Turn::Wrong(refusal(p)),
     }
 }
 
 // Behind an atom's word.
-fn on_named(depth: usize, atoms: u32, b: Past, p: Piece) -> Turn
-    ensures { result ≡ on_named depth atoms b p }
+fn on_named(f: Formula, b: Past, p: Piece) -> Turn
+    ensures { result ≡ on_named f.depth f.atoms b p }
 {
-    let Piece::Left = p else {
-        return Turn::Wrong(refusal(p));
-    };
-    Turn::Go(Formula {
-        depth,
-        atoms,
-        stage: Stage::Bracket(b),
-    })
+    match p {
+        Piece::Left => Turn::Go(Formula {
+            stage: Stage::Bracket(b),
+            ..f
+        }),
+        _ => Turn::Wrong(refusal(p)),
+    }
 }
 
 // Behind an atom's bracket: the i-th atom bears mark i.
-fn on_bracket(depth: usize, atoms: u32, b: Past, p: Piece) -> Turn
-    ensures { result ≡ on_bracket depth atoms b p }
+fn on_bracket(f: Formula, b: Past, p: Piece) -> Turn
+    ensures { result ≡ on_bracket f.depth f.atoms b p }
 {
     match p {
-        Piece::Number(k) => {
-            if atoms <= k {
-                return Turn::Wrong(SUBSET);
-            }
-            if k + 1 == atoms {
-                return Turn::Go(Formula {
-                    depth,
-                    atoms,
-                    stage: Stage::Number(b),
-                });
-            }
-            Turn::Wrong(SUBSET)
-        }
-        Piece::Not => Turn::Wrong(SUBSET),
+        Piece::Number(k) if k < f.atoms && k + 1 == f.atoms => Turn::Go(Formula {
+            stage: Stage::Number(b),
+            ..f
+        }),
+        Piece::Number(_) | Piece::Not => Turn::Wrong(SUBSET),
         _ => Turn::Wrong(refusal(p)),
     }
 }
 
 // Behind an atom's number.
-fn on_number(depth: usize, atoms: u32, b: Past, p: Piece) -> Turn
-    ensures { result ≡ on_number depth atoms b p }
+fn on_number(f: Formula, b: Past, p: Piece) -> Turn
+    ensures { result ≡ on_number f.depth f.atoms b p }
 {
-    let Piece::Right = p else {
-        return Turn::Wrong(refusal(p));
-    };
-    Turn::Go(Formula {
-        depth,
-        atoms,
-        stage: Stage::After(b),
-    })
+    match p {
+        Piece::Right => Turn::Go(Formula {
+            stage: Stage::After(b),
+            ..f
+        }),
+        _ => Turn::Wrong(refusal(p)),
+    }
 }
 
 // Behind an operand: with no open bracket, what does not continue the formula is the token behind it.
-fn on_after(c: u32, depth: usize, atoms: u32, b: Past, p: Piece, pairs: u32) -> Turn
-    ensures { result ≡ on_after c depth atoms b p pairs }
+fn on_after(c: u32, f: Formula, b: Past, p: Piece, pairs: u32) -> Turn
+    ensures { result ≡ on_after c f.depth f.atoms b p pairs }
 {
     match p {
-        Piece::Right => {
-            if depth == 0 {
-                return Turn::Over;
-            }
-            go_past(depth - 1, atoms, closed(b))
+        Piece::Right if 0 < f.depth => {
+            let outside = Formula {
+                depth: f.depth - 1,
+                ..f
+            };
+            go_past(outside, closed(b))
         }
-        Piece::And => {
-            if c <= atoms {
-                return Turn::Wrong(SUBSET);
-            }
-            go_ahead(depth, atoms, joined_and(b), pairs)
-        }
-        Piece::Or => {
-            if c <= atoms {
-                return Turn::Wrong(SUBSET);
-            }
-            go_ahead(depth, atoms, joined_or(b), pairs)
-        }
-        _ => {
-            if depth == 0 {
-                return Turn::Over;
-            }
-            Turn::Wrong(refusal(p))
-        }
+        Piece::And | Piece::Or if c <= f.atoms => Turn::Wrong(SUBSET),
+        Piece::And => go_ahead(f, joined_and(b), pairs),
+        Piece::Or => go_ahead(f, joined_or(b), pairs),
+        _ if f.depth == 0 => Turn::Over,
+        _ => Turn::Wrong(refusal(p)),
     }
 }
 
@@ -221,14 +194,11 @@ pub fn step(c: u32, f: Formula, p: Piece, pairs: u32, most: usize) -> Turn
     requires { Within most f × (p ≡ Piece.Left → most < bracket_room) }
     ensures { result ≡ turn_at c f p pairs }
 {
-    let depth = f.depth;
-    let atoms = f.atoms;
-    let stage = f.stage;
-    match stage {
-        Stage::Operand(a) => on_operand(c, depth, atoms, a, p, pairs, most),
-        Stage::Named(b) => on_named(depth, atoms, b, p),
-        Stage::Bracket(b) => on_bracket(depth, atoms, b, p),
-        Stage::Number(b) => on_number(depth, atoms, b, p),
-        Stage::After(b) => on_after(c, depth, atoms, b, p, pairs),
+    match f.stage {
+        Stage::Operand(a) => on_operand(c, f, a, p, pairs, most),
+        Stage::Named(b) => on_named(f, b, p),
+        Stage::Bracket(b) => on_bracket(f, b, p),
+        Stage::Number(b) => on_number(f, b, p),
+        Stage::After(b) => on_after(c, f, b, p, pairs),
     }
 }

@@ -5,18 +5,17 @@ use mathlib.Core.List.{List}
 use Prim.Native.Nat.{ℕ, ◌-◌, ◌≤◌, ◌<◌}
 use native.Mathlib.Omega.{arith}
 use lib.ListN.{length}
+use Rattle.std.specs.Prelude.{Result, Ok, Err}
+use Rattle.hoa_tokens.specs.declared.BadToken.{BadToken}
 use Rattle.hoa_tokens.specs.Token.{Token}
 use Rattle.hoa_tokens.specs.Stream.{tokens_at}
 use Rattle.hoa_step.specs.Machine.{run, wants_text}
-use Rattle.hoa_step.specs.declared.TextRead.{TextRead}
-use Rattle.hoa_step.specs.declared.TextRead.TheVariants as text_read
 use Rattle.hoa_step.specs.Wanted.{Next, Faulty, Quoted, text_fault, TextReads}
 use Rattle.hoa_step.proofs.Runs.{first_goes, first_wrong, first_same, text_wrong, faulty_within}
 use Rattle.hoa_value.specs.declared.Head.{Head}
 use Rattle.hoa_value.specs.declared.token.Spot.{Spot}
-use Rattle.hoa_value.specs.declared.hint.Passed.TheVariants as passed
 use Rattle.hoa_value.specs.Heading.{HeadState, items, hints, acc_name, tool_text, tool_more, name_text, head_step}
-use Rattle.hoa_value.specs.inner.Pieces.{Spotted, is_hint, is_word, is_text, misplaced_number}
+use Rattle.hoa_value.specs.inner.Pieces.{Spotted, is_hint, is_word, is_text, misplaced_token}
 use Rattle.hoa_value.specs.inner.Values.{Passes, HintsPassed}
 use Rattle.hoa_value.proofs.Pieces.{hint_known, word_known, text_piece, hint_is, hint_not, word_is, word_not, tool_is, tool_not}
 
@@ -63,7 +62,7 @@ module _ (text : List ℕ) (at : ℕ) (r : Spot) (s : Spotted text at r) where
   pub word_next : is_word r.piece ≡ true → Next text at r.first r.next s.token
   word_next e = s.goes_on (word_known r.piece e)
 
-  pub acc_goes : (next : ℕ) → is_word r.piece ≡ true → HintsPassed text r.next true false next → Passes text at acc_name items (passed.Behind next)
+  pub acc_goes : (next : ℕ) → is_word r.piece ≡ true → HintsPassed text r.next true false next → Passes text at acc_name items (Ok next)
   unfolding head_step
   acc_goes next e p =
       let n = word_next e in
@@ -72,25 +71,19 @@ module _ (text : List ℕ) (at : ℕ) (r : Spot) (s : Spotted text at r) where
         stays = (omega (arith, n.behind_at, n.takes, p.behind_at), p.within);
       }
 
-  pub acc_stops : (k : ℕ) → is_word r.piece ≡ false → k ≡ misplaced_number 40 r.piece → at ≤ length text → Passes text at acc_name items (passed.Refused k r.first)
+  pub acc_stops : is_word r.piece ≡ false → at ≤ length text → Passes text at acc_name items (Err (misplaced_token 40 r))
   unfolding head_step
-  acc_stops k e q l =
+  acc_stops e l =
       record {
-        says = λ h. first_wrong head_step text at s.is k (rw (s.piece, q) (word_not h r.piece e));
+        says = λ h. first_wrong head_step text at s.is _ (rw s.piece (word_not h r.piece e));
         stays = s.within l;
       }
 
 -- ---- a STRING that is passed over
 
-pub text_there : (text : List ℕ) (at : ℕ) (r : TextRead) {q : ℕ} → r ≡ text_read.Behind q → TextReads text at r → Quoted text at q
-text_there text at r e h = rw e at h
-
-pub text_not : (text : List ℕ) (at : ℕ) (r : TextRead) {n p : ℕ} → r ≡ text_read.Refused n p → TextReads text at r → Faulty text at text_fault n p
-text_not text at r e h = rw e at h
-
-pub text_stops : (text : List ℕ) (at n p : ℕ) (from to after : Head → HeadState) → ((h : Head) (t : Token) → head_step (from h) t ≡ wants_text (after h) t)
-    → Faulty text at text_fault n p → at ≤ length text → Passes text at from to (passed.Refused n p)
-text_stops text at n p from to after w f l =
+pub text_stops : (text : List ℕ) (at : ℕ) (from to after : Head → HeadState) (e : BadToken) → ((h : Head) (t : Token) → head_step (from h) t ≡ wants_text (after h) t)
+    → Faulty text at text_fault e.number e.place → at ≤ length text → Passes text at from to (Err e)
+text_stops text at from to after e w f l =
     record {
       says = λ h. text_wrong head_step text at (from h) (after h) f (w h);
       stays = faulty_within f l;
@@ -105,9 +98,10 @@ unfolding head_step
 tool_text_lem h t = refl
 
 -- name:
-pub name_passed : (text : List ℕ) (at next : ℕ) → Quoted text at next → Passes text at name_text items (passed.Behind next)
+pub name_passed : (text : List ℕ) (at : ℕ) (r : Result ℕ BadToken) → TextReads text at r → at ≤ length text → Passes text at name_text items r
 unfolding head_step wants_text
-name_passed text at next q =
+name_passed text at (Err e) f l = text_stops text at name_text items items e name_text_lem f l
+name_passed text at (Ok next) q l =
     let n = q.there in
     record {
       says = λ h. first_goes head_step text at n.is (items h) refl;
@@ -120,7 +114,7 @@ module _ (text : List ℕ) (at next : ℕ) (q : Quoted text at next) (r : Spot) 
   unfolding head_step wants_text
   tool_goes h = first_goes head_step text at q.there.is (tool_more h) refl
 
-  pub tool_second : is_text r.piece ≡ true → Passes text at tool_text items (passed.Behind r.next)
+  pub tool_second : is_text r.piece ≡ true → Passes text at tool_text items (Ok r.next)
   unfolding head_step
   tool_second e =
       let n = s.goes_on (rw (text_piece r.piece e)) in
@@ -130,7 +124,7 @@ module _ (text : List ℕ) (at next : ℕ) (q : Quoted text at next) (r : Spot) 
         stays = (omega (arith, m.behind_at, m.takes, n.behind_at, n.takes), n.within);
       }
 
-  pub tool_alone : is_text r.piece ≡ false → Passes text at tool_text items (passed.Behind next)
+  pub tool_alone : is_text r.piece ≡ false → Passes text at tool_text items (Ok next)
   unfolding head_step
   tool_alone e =
       let m = q.there in

@@ -1,9 +1,8 @@
 -- The header token by token (docs/RULES.md, "The Hanoi format", the faulty token): what is known of it so far, and what each number may be.
 -- Assumes nothing.
-use Rattle.std.specs.Prelude.{true, false, List, ℕ, replicate}
+use Rattle.std.specs.Prelude.{false, true, List, ℕ, replicate, Some, None}
 use Rattle.table.specs.declared.Acceptance.{Acceptance}
 use Rattle.table.specs.declared.Acceptance.TheVariants.{Buchi}
-use Rattle.hoa_step.specs.declared.Given.TheVariants.{Not, Value}
 use Rattle.hoa_value.specs.declared.Head.{Head}
 
 -- ---- the limits: "a at most 6, c at most 32"; those of states and edges are the job text's
@@ -20,10 +19,10 @@ most_marks = 32
 abbrev pub blank : Head
 blank =
     record {
-      states = Not;
-      start = Not;
-      props = Not;
-      marks = Not;
+      states = None;
+      start = None;
+      props = None;
+      marks = None;
       hint = false;
       tool = false;
       name = false;
@@ -35,105 +34,28 @@ blank =
 
 -- `States: n`
 abbrev pub with_states : ℕ → Head → Head
-with_states n h =
-    record {
-      states = Value n;
-      start = h.start;
-      props = h.props;
-      marks = h.marks;
-      hint = h.hint;
-      tool = h.tool;
-      name = h.name;
-      condition = h.condition;
-      needs = h.needs;
-    }
+with_states n h = record h { states = Some n }
 
 -- `Start: s`
 abbrev pub with_start : ℕ → Head → Head
-with_start s h =
-    record {
-      states = h.states;
-      start = Value s;
-      props = h.props;
-      marks = h.marks;
-      hint = h.hint;
-      tool = h.tool;
-      name = h.name;
-      condition = h.condition;
-      needs = h.needs;
-    }
+with_start s h = record h { start = Some s }
 
 -- `AP: a` with its names
 abbrev pub with_props : ℕ → Head → Head
-with_props a h =
-    record {
-      states = h.states;
-      start = h.start;
-      props = Value a;
-      marks = h.marks;
-      hint = h.hint;
-      tool = h.tool;
-      name = h.name;
-      condition = h.condition;
-      needs = h.needs;
-    }
+with_props a h = record h { props = Some a }
 
 -- `Acceptance: c` with its formula
 abbrev pub with_marks : ℕ → Acceptance → List ℕ → Head → Head
-with_marks c condition needs h =
-    record {
-      states = h.states;
-      start = h.start;
-      props = h.props;
-      marks = Value c;
-      hint = h.hint;
-      tool = h.tool;
-      name = h.name;
-      condition = condition;
-      needs = needs;
-    }
+with_marks c condition needs h = record h { marks = Some c; condition = condition; needs = needs }
 
 -- `acc-name:`
 abbrev pub with_acc_name : Head → Head
-with_acc_name h =
-    record {
-      states = h.states;
-      start = h.start;
-      props = h.props;
-      marks = h.marks;
-      hint = true;
-      tool = h.tool;
-      name = h.name;
-      condition = h.condition;
-      needs = h.needs;
-    }
+with_acc_name h = record h { hint = true }
 
 -- `tool:`
 abbrev pub with_tool : Head → Head
-with_tool h =
-    record {
-      states = h.states;
-      start = h.start;
-      props = h.props;
-      marks = h.marks;
-      hint = h.hint;
-      tool = true;
-      name = h.name;
-      condition = h.condition;
-      needs = h.needs;
-    }
+with_tool h = record h { tool = true }
 
 -- `name:`
 abbrev pub with_name : Head → Head
-with_name h =
-    record {
-      states = h.states;
-      start = h.start;
-      props = h.props;
-      marks = h.marks;
-      hint = h.hint;
-      tool = h.tool;
-      name = true;
-      condition = h.condition;
-      needs = h.needs;
-    }
+with_name h = record h { name = true }

@@ -4,14 +4,8 @@ ghost use Rattle.hoa_value.specs.Heading.{items, acc_name, tool_text, name_text}
 ghost use Rattle.hoa_value.specs.inner.Values.{Passes, HintsPassed};
 
 use crate::token::{is_hint, is_text, is_word, look, misplaced};
-use hoa_step::{TextRead, read_text};
-
-// The byte behind a part of the header, or the refusal.
-#[derive(Clone, Copy)]
-pub enum Passed {
-    Behind { next: usize },
-    Refused { number: u32, place: usize },
-}
+use hoa_step::read_text;
+use hoa_tokens::BadToken;
 
 // The words from `at` on, and INTs and STRINGs too if so said: the place behind them.
 pub fn pass_hints(text: &[u8], at: usize, ints: bool, texts: bool) -> usize
@@ -21,56 +15,44 @@ pub fn pass_hints(text: &[u8], at: usize, ints: bool, texts: bool) -> usize
     let mut next = at;
     loop {
         let spot = look(text, next);
-        let piece = spot.piece;
-        if !is_hint(piece, ints, texts) {
+        if !is_hint(spot.piece, ints, texts) {
             return next;
         }
         next = spot.next;
     }
 }
 
-// The WORD of acc-name:, then words and INTs.
-pub fn read_acc_name(text: &[u8], at: usize) -> Passed
+// The WORD of acc-name:, then words and INTs: the byte behind them.
+pub fn read_acc_name(text: &[u8], at: usize) -> Result<usize, BadToken>
     requires { at ≤ length text.now }
     ensures { Passes text.now at acc_name items result }
 {
     let spot = look(text, at);
-    let piece = spot.piece;
-    if is_word(piece) {
-        let next = pass_hints(text, spot.next, true, false);
-        return Passed::Behind { next };
-    }
-    Passed::Refused {
-        number: misplaced(piece, 40),
-        place: spot.first,
+    if is_word(spot.piece) {
+        Ok(pass_hints(text, spot.next, true, false))
+    } else {
+        Err(misplaced(spot, 40))
     }
 }
 
-// The STRING of name:.
-pub fn read_name(text: &[u8], at: usize) -> Passed
+// The STRING of name:, and the byte behind it.
+pub fn read_name(text: &[u8], at: usize) -> Result<usize, BadToken>
     requires { at ≤ length text.now }
     ensures { Passes text.now at name_text items result }
 {
-    match read_text(text, at) {
-        TextRead::Refused { number, place } => Passed::Refused { number, place },
-        TextRead::Behind { next } => Passed::Behind { next },
-    }
+    read_text(text, at)
 }
 
-// The STRING of tool:, and perhaps a second one.
-pub fn read_tool(text: &[u8], at: usize) -> Passed
+// The STRING of tool:, and perhaps a second one: the byte behind them.
+pub fn read_tool(text: &[u8], at: usize) -> Result<usize, BadToken>
     requires { at ≤ length text.now }
     ensures { Passes text.now at tool_text items result }
 {
-    match read_text(text, at) {
-        TextRead::Refused { number, place } => Passed::Refused { number, place },
-        TextRead::Behind { next } => {
-            let spot = look(text, next);
-            let piece = spot.piece;
-            if is_text(piece) {
-                return Passed::Behind { next: spot.next };
-            }
-            Passed::Behind { next }
-        }
+    let next = read_text(text, at)?;
+    let spot = look(text, next);
+    if is_text(spot.piece) {
+        Ok(spot.next)
+    } else {
+        Ok(next)
     }
 }

@@ -8,17 +8,16 @@ pub mod names;
 pub mod token;
 pub mod value;
 
-use hoa_step::Given;
 use hoa_tokens::Header;
 use table::Acceptance;
 
 // What was read of the header so far: the numbers of States:, Start:, AP: and Acceptance:, whether acc-name:, tool: and name: came, and the condition.
 #[derive(Clone, Copy)]
 pub struct Head {
-    pub states: Given,
-    pub start: Given,
-    pub props: Given,
-    pub marks: Given,
+    pub states: Option<u32>,
+    pub start: Option<u32>,
+    pub props: Option<u32>,
+    pub marks: Option<u32>,
     pub hint: bool,
     pub tool: bool,
     pub name: bool,

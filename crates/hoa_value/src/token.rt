@@ -1,10 +1,10 @@
 // What a token is where the header stands, and whether it belongs to what stands before it. Relies on the crate `hoa_tokens`.
 ghost use Rattle.std.specs.Prelude.{◌≡◌};
 ghost use Rattle.hoa_value.specs.Heading.{piece_header, piece_sign};
-ghost use Rattle.hoa_value.specs.inner.Pieces.{piece_kind, misplaced_number, is_join, is_text, is_word, is_hint, Spotted};
+ghost use Rattle.hoa_value.specs.inner.Pieces.{piece_kind, misplaced_token, is_join, is_text, is_word, is_hint, Spotted};
 
 use crate::Piece;
-use hoa_tokens::{Header, Kind, Sign, token_at};
+use hoa_tokens::{BadToken, Header, Kind, Sign, token_at};
 
 // The first token from a place on: what it is, its first byte and the byte behind it.
 #[derive(Clone, Copy)]
@@ -19,19 +19,8 @@ fn piece_header(header: Header) -> Piece
     ensures { result ≡ piece_header header }
 {
     match header {
-        Header::Hoa => Piece::Wrong(40),
-        Header::States => Piece::Item(header),
-        Header::Start => Piece::Item(header),
-        Header::Ap => Piece::Item(header),
-        Header::Alias => Piece::Item(header),
-        Header::Acceptance => Piece::Item(header),
-        Header::AccName => Piece::Item(header),
-        Header::Tool => Piece::Item(header),
-        Header::Name => Piece::Item(header),
-        Header::Properties => Piece::Item(header),
-        Header::State => Piece::Wrong(40),
-        Header::Capital => Piece::Item(header),
-        Header::Lower => Piece::Item(header),
+        Header::Hoa | Header::State => Piece::Wrong(40),
+        _ => Piece::Item(header),
     }
 }
 
@@ -41,14 +30,7 @@ fn piece_sign(sign: Sign) -> Piece
 {
     match sign {
         Sign::And => Piece::Join,
-        Sign::ParenLeft => Piece::Wrong(40),
-        Sign::ParenRight => Piece::Wrong(40),
-        Sign::BracketLeft => Piece::Wrong(40),
-        Sign::BracketRight => Piece::Wrong(40),
-        Sign::BraceLeft => Piece::Wrong(40),
-        Sign::BraceRight => Piece::Wrong(40),
-        Sign::Or => Piece::Wrong(40),
-        Sign::Not => Piece::Wrong(40),
+        _ => Piece::Wrong(40),
     }
 }
 
@@ -64,10 +46,7 @@ fn piece_of(kind: Kind) -> Piece
         Kind::Int(_) => Piece::Int,
         Kind::Quoted => Piece::Text,
         Kind::Abort => Piece::Wrong(41),
-        Kind::Alias => Piece::Wrong(40),
-        Kind::End => Piece::Wrong(40),
-        Kind::Finish => Piece::Wrong(40),
-        Kind::Bad => Piece::Wrong(40),
+        Kind::Alias | Kind::End | Kind::Finish | Kind::Bad => Piece::Wrong(40),
     }
 }
 
@@ -76,26 +55,25 @@ pub fn look(text: &[u8], at: usize) -> Spot
     ensures { Spotted text.now at result }
 {
     let found = token_at(text, at);
-    let kind = found.kind;
     Spot {
-        piece: piece_of(kind),
+        piece: piece_of(found.kind),
         first: found.first,
         next: found.next,
     }
 }
 
-// The number of a token that may not stand here: this one for an item and `--BODY--`, which may stand behind what came before.
-pub(crate) fn misplaced(piece: Piece, item: u32) -> u32
-    ensures { result ≡ misplaced_number item piece }
+// The refusal of a token that may not stand here: this number for an item and `--BODY--`, which may stand behind what came before.
+pub(crate) fn misplaced(spot: Spot, item: u32) -> BadToken
+    ensures { result ≡ misplaced_token item spot }
 {
-    match piece {
-        Piece::Item(_) => item,
-        Piece::Body => item,
-        Piece::Word => 40,
-        Piece::Int => 40,
-        Piece::Text => 40,
-        Piece::Join => 40,
+    let number = match spot.piece {
+        Piece::Item(_) | Piece::Body => item,
         Piece::Wrong(number) => number,
+        _ => 40,
+    };
+    BadToken {
+        number,
+        place: spot.first,
     }
 }
 
@@ -103,45 +81,21 @@ pub(crate) fn misplaced(piece: Piece, item: u32) -> u32
 pub(crate) fn is_join(piece: Piece) -> bool
     ensures { result ≡ is_join piece }
 {
-    match piece {
-        Piece::Join => true,
-        Piece::Item(_) => false,
-        Piece::Body => false,
-        Piece::Word => false,
-        Piece::Int => false,
-        Piece::Text => false,
-        Piece::Wrong(_) => false,
-    }
+    matches!(piece, Piece::Join)
 }
 
 // Whether the token is a STRING.
 pub(crate) fn is_text(piece: Piece) -> bool
     ensures { result ≡ is_text piece }
 {
-    match piece {
-        Piece::Text => true,
-        Piece::Item(_) => false,
-        Piece::Body => false,
-        Piece::Word => false,
-        Piece::Int => false,
-        Piece::Join => false,
-        Piece::Wrong(_) => false,
-    }
+    matches!(piece, Piece::Text)
 }
 
 // Whether the token is a WORD.
 pub(crate) fn is_word(piece: Piece) -> bool
     ensures { result ≡ is_word piece }
 {
-    match piece {
-        Piece::Word => true,
-        Piece::Item(_) => false,
-        Piece::Body => false,
-        Piece::Int => false,
-        Piece::Text => false,
-        Piece::Join => false,
-        Piece::Wrong(_) => false,
-    }
+    matches!(piece, Piece::Word)
 }
 
 // Whether the token is passed over: a WORD, and an INT or a STRING if so said.
@@ -152,9 +106,6 @@ pub(crate) fn is_hint(piece: Piece, ints: bool, texts: bool) -> bool
         Piece::Word => true,
         Piece::Int => ints,
         Piece::Text => texts,
-        Piece::Item(_) => false,
-        Piece::Body => false,
-        Piece::Join => false,
-        Piece::Wrong(_) => false,
+        _ => false,
     }
 }

@@ -1,4 +1,5 @@
 -- How long a text is at most: 52,205 bytes (docs/RULES.md, "The Hanoi format", the writer). Each number is counted with its digits. Assumes nothing.
+use Rattle.std.specs.Prelude.{Ok}
 use mathlib.Core.Path.{◌≡◌, refl, ap}
 use mathlib.Core.Bool.{Bool, true, false, cond}
 use mathlib.Core.List.{List, [], ◌∷◌, ◌++◌}
@@ -13,7 +14,6 @@ use Rattle.table.specs.declared.Acceptance.{Acceptance}
 use Rattle.table.specs.declared.Acceptance.TheVariants.{Buchi, Streett, Rabin}
 use Rattle.table.specs.Table.{lent}
 use Rattle.table.specs.Condition.{need, dealt}
-use Rattle.table.specs.declared.Finding.TheVariants.{Sound}
 use Rattle.table.specs.Refusal.{used, refusal, wrong_condition}
 use Rattle.table.proofs.Sound.{Fit, sound_fit, used_few, rabin_few}
 use Rattle.puts.specs.Put.{decimal, held, joined}
@@ -353,8 +353,8 @@ most_bytes_lem n start from to marks c needs fit l h =
         (λ s. rw (get_or-eq_default to 0 {n = e} (omega (arith, fit.proper.to_length))) (omega arith))
 
 -- so no table that is written is refused for want of room where the output has so many bytes
-pub room_enough : (n start : ℕ) (from to marks : List ℕ) (c : Acceptance) (needs : List ℕ) → refusal (lent n start from to marks) c needs ≡ Sound
-    → n ≤ most_written → length from ≤ most_written_edges → (room : ℕ) → most_bytes ≤ room → write_refusal (lent n start from to marks) c needs room ≡ Sound
+pub room_enough : (n start : ℕ) (from to marks : List ℕ) (c : Acceptance) (needs : List ℕ) → refusal (lent n start from to marks) c needs ≡ Ok tt
+    → n ≤ most_written → length from ≤ most_written_edges → (room : ℕ) → most_bytes ≤ room → write_refusal (lent n start from to marks) c needs room ≡ Ok tt
 room_enough n start from to marks c needs sound l h room enough =
     let t = lent n start from to marks in
     let text = hoa_text t c needs in

@@ -1,4 +1,5 @@
 -- The lists of a table that is not refused, and the writer's limits. Assumes nothing.
+use Rattle.std.specs.Prelude.{Ok}
 use mathlib.Core.Path.{◌≡◌, ap, ◌∙◌}
 use mathlib.Core.Bool.{Bool, true, false, ◌||◌}
 use mathlib.Core.List.{List}
@@ -7,7 +8,6 @@ use lib.Dec.{ltb}
 use lib.ListN.{length}
 use borrow.Author.Tests.{lt-ltb, le-ltb}
 use Rattle.table.specs.declared.Acceptance.{Acceptance}
-use Rattle.table.specs.declared.Finding.TheVariants.{Sound}
 use Rattle.table.specs.Table.{Table, lent}
 use Rattle.table.specs.Refusal.{refusal, wrong_condition}
 use Rattle.table.proofs.Sound.{sound_fit}
@@ -16,7 +16,7 @@ use Rattle.hoa_put_rows.specs.inner.{Passed}
 
 -- ---- the lists of a table that is not refused
 
-module _ (n start : ℕ) (from to marks : List ℕ) (c : Acceptance) (needs : List ℕ) (sound : refusal (lent n start from to marks) c needs ≡ Sound) where
+module _ (n start : ℕ) (from to marks : List ℕ) (c : Acceptance) (needs : List ℕ) (sound : refusal (lent n start from to marks) c needs ≡ Ok tt) where
   -- its lists are as the writer asks
   pub lists_passed : length from ≤ most_written_edges → Passed from to marks
   lists_passed l =

@@ -3,16 +3,15 @@
 // hoa_written/specs/Written.antt, what the writer gives for every input in hoa_written/specs/Writing.antt.
 #![tactic(auto)]
 
-ghost use Rattle.std.specs.Prelude.{◌≡◌, false, ◌≤◌};
+ghost use Rattle.std.specs.Prelude.{◌≡◌, false, ◌≤◌, Ok};
 ghost use Rattle.table.specs.Table.{lent};
-ghost use Rattle.table.specs.Refusal.{refusal, wrong_condition};
+ghost use Rattle.table.specs.Refusal.{refused, refusal, wrong_condition};
 ghost use Rattle.puts.specs.Put.{Put, PutFew};
 ghost use Rattle.hoa_written.specs.Written.{hoa_text, head_text};
 ghost use Rattle.hoa_written.specs.Writing.{Writes, most_written};
 ghost use Rattle.hoa_put_rows.specs.inner.{Passed};
 
-use table::{Acceptance, Finding};
-use writing::Written;
+use table::{Acceptance, Refusal};
 
 // The largest tables that are written.
 pub const MOST_STATES: u32 = 256;
@@ -55,10 +54,10 @@ fn put_text(
 }
 
 // A refusal that is no edge's.
-fn refused(number: u32) -> Written
-    ensures { result ≡ Written.Refused number 0 }
+fn refused(number: u32) -> Result<usize, Refusal>
+    ensures { result ≡ refused number 0 }
 {
-    Written::Refused { number, place: 0 }
+    Err(Refusal { number, place: 0 })
 }
 
 // The text of a table that rows 1 to 7 pass, and zeros behind it, if the table is not too large and the output long enough.
@@ -71,14 +70,11 @@ fn write_sound(
     condition: Acceptance,
     needs: [u32; 8],
     out: &mut [u8],
-) -> Written
-    requires { refusal (lent n start from.now to.now marks.now) condition needs ≡ Finding.Sound }
+) -> Result<usize, Refusal>
+    requires { refusal (lent n start from.now to.now marks.now) condition needs ≡ Ok tt }
     ensures { Writes (lent n start from.now to.now marks.now) condition needs out.old out.new result }
 {
-    if MOST_STATES < n {
-        return refused(42);
-    }
-    if MOST_EDGES < from.len() {
+    if MOST_STATES < n || MOST_EDGES < from.len() {
         return refused(42);
     }
     let length = put_text(&mut out[0..0], n, start, from, to, marks, condition, needs);
@@ -87,7 +83,7 @@ fn write_sound(
     }
     put_text(out, n, start, from, to, marks, condition, needs);
     puts::clear(out, length);
-    Written::Text { length }
+    Ok(length)
 }
 
 // The text of a table and its condition, and zeros behind it; or the first cause to refuse, and the output as it was.
@@ -100,12 +96,9 @@ pub fn write_hoa(
     condition: Acceptance,
     needs: [u32; 8],
     out: &mut [u8],
-) -> Written
+) -> Result<usize, Refusal>
     ensures { Writes (lent n start from.now to.now marks.now) condition needs out.old out.new result }
 {
-    let finding = table::check(n, start, from, to, marks, condition, needs);
-    match finding {
-        Finding::Refused { number, place } => Written::Refused { number, place },
-        Finding::Sound => write_sound(n, start, from, to, marks, condition, needs, out),
-    }
+    table::check(n, start, from, to, marks, condition, needs)?;
+    write_sound(n, start, from, to, marks, condition, needs, out)
 }

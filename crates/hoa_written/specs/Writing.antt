@@ -1,10 +1,9 @@
 -- What the writer gives for every input (docs/RULES.md, "The Hanoi format", the writer). Assumes nothing.
-use Rattle.std.specs.Prelude.{Bool, ◌||◌, List, ℕ, ltb, length}
+use Rattle.table.specs.declared.Refusal.{Refusal}
+use Rattle.std.specs.Prelude.{Bool, ◌||◌, List, ℕ, ltb, length, Result}
 use Rattle.table.specs.declared.Acceptance.{Acceptance}
-use Rattle.table.specs.declared.Finding.{Finding}
 use Rattle.table.specs.Table.{Table}
 use Rattle.table.specs.Refusal.{refusal}
-use Rattle.writing.specs.declared.Written.{Written}
 use Rattle.writing.specs.Writing.{text_refusal, Gives}
 use Rattle.hoa_written.specs.Written.{hoa_text}
 
@@ -29,11 +28,11 @@ abbrev pub too_large : Table → Bool
 too_large t = ltb most_written t.states || ltb most_written_edges t.edges
 
 -- "rows 1 to 7 with their places; 42 at 0 if n is above 256 or m above 512; 11 at 0 if the output is shorter than the text"
-abbrev pub write_refusal : Table → Acceptance → List ℕ → ℕ → Finding
+abbrev pub write_refusal : Table → Acceptance → List ℕ → ℕ → Result Unit Refusal
 write_refusal t c needs room = text_refusal (refusal t c needs) (too_large t) 42 (hoa_text t c needs) room
 
 -- ---- what comes back
 
 -- the answer r, and out' where the output was out: the text's length and "zeros behind the text", or the refusal and the output as it was
-abbrev pub Writes : Table → Acceptance → List ℕ → List ℕ → List ℕ → Written → Type 0
+abbrev pub Writes : Table → Acceptance → List ℕ → List ℕ → List ℕ → Result ℕ Refusal → Type 0
 Writes t c needs out out' r = Gives (hoa_text t c needs) (write_refusal t c needs (length out)) out out' r

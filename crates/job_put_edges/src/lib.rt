@@ -10,15 +10,17 @@ ghost use Rattle.job_put_edges.specs.inner.{Passed};
 use puts::{put, put_held};
 
 // The byte of a hex digit.
+#[tactic(auto, unfolding(crate::specs::Edges::hex_byte))]
 fn hex_byte(digit: u32) -> u8
     requires { digit < 16 }
     ensures { result ≡ hex_byte digit }
 {
     let value = digit as u8;
     if value < 10 {
-        return b'0' + value;
+        b'0' + value
+    } else {
+        b'a' + (value - 10)
     }
-    b'a' + (value - 10)
 }
 
 // The eight hex digits of a set of marks, the highest first.
@@ -27,12 +29,9 @@ fn put_hex(out: &mut [u8], at: usize, set: u32) -> usize
     ensures { PutFew out.old out.new at (hex_text set) result 8 }
 {
     let mut next = at;
-    let mut i: u32 = 0;
-    while i < 8 {
+    for i in 0u32..8 {
         let digit = (set >> (28 - 4 * i)) % 16;
-        let byte = hex_byte(digit);
-        next = put(out, next, byte);
-        i += 1;
+        next = put(out, next, hex_byte(digit));
     }
     next
 }
@@ -49,19 +48,15 @@ fn put_edge(out: &mut [u8], at: usize, from: u32, to: u32, set: u32) -> usize
 }
 
 // The lines of the edges.
+#[tactic(auto, using(puts::proofs::Few::few_more))]
 pub fn put_edges(out: &mut [u8], at: usize, from: &[u32], to: &[u32], marks: &[u32]) -> usize
     requires at_bound { at < 2 ^ 20 }
     requires passed { Passed from.now to.now marks.now }
     ensures { PutFew out.old out.new at (edges_text from.now to.now marks.now (length from.now)) result 20480 }
 {
     let mut next = at;
-    let mut i = 0;
-    while i < from.len() {
-        let leaves = from[i];
-        let arrives = to[i];
-        let set = marks[i];
-        next = put_edge(out, next, leaves, arrives, set);
-        i += 1;
+    for i in 0..from.len() {
+        next = put_edge(out, next, from[i], to[i], marks[i]);
     }
     next
 }

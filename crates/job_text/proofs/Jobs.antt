@@ -1,32 +1,16 @@
 -- The whole text: what the reader's parts say of it together. Assumes nothing.
 use mathlib.Core.Path.{◌≡◌, refl, sym, ap, subst, ◌∙◌}
 use mathlib.Core.List.{List}
-use Prim.Native.Nat.{ℕ, suc, ◌≤◌, ◌<◌}
-use native.Mathlib.Omega.{arith}
-use lib.ListN.{length, drop}
+use Prim.Native.Nat.{ℕ, ◌≤◌, ◌<◌}
+use lib.ListN.{length}
 use borrow.Author.Tests.{lt-ltb, le-ltb}
 use Rattle.job_text.specs.declared.line.Fault.{Fault}
-use Rattle.job_text.specs.declared.reader.Ending.{Ending}
-use Rattle.job_text.specs.declared.reader.Ending.TheVariants as ending
 use Rattle.job_text.specs.declared.reader.Reading.{Reading}
-use Rattle.job_text.specs.declared.reader.Head.{Head as HeadRead}
 use Rattle.job_text.specs.Text.{Lines, lines}
 use Rattle.job_text.specs.Value.{Edge}
-use Rattle.job_text.specs.Job.{Found, found, refused, Head, most_bytes, head_lines, body_lines, Job, job_of, job_lines, Outcome, job, fault, outcome, read_job, ColumnIn, Column}
+use Rattle.job_text.specs.Job.{Found, found, refused, Head, most_bytes, Job, job_of, job_lines, Outcome, job, fault, outcome, read_job, ColumnIn, Column}
 use Rattle.job_text.specs.Given.{Blamed}
-use Rattle.job_text.specs.Reading.{HeadBy, HeadAt, Held, refused_reading, reading_of, Read}
-
--- ---- what the head's reader says
-
-abbrev pub head_of : HeadRead → Head
-head_of h = record { states = h.states; start = h.start; kind = h.kind; count = h.count; needs = h.needs; edges = h.edges }
-
-module _ (text : List ℕ) (said : Found Head) (h : HeadRead) (at : HeadAt text said h) where
-  pub head_refuses : {f : Fault} → h.ending ≡ ending.Refused f → Blamed text said f
-  head_refuses {f} e = subst (λ (x : Ending). HeadBy x text said h) e at.is
-
-  pub head_sound : h.ending ≡ ending.Sound → said ≡ found (head_of h) h.line (lines (drop h.next text))
-  head_sound e = subst (λ (x : Ending). HeadBy x text said h) e at.is
+use Rattle.job_text.specs.Reading.{Held, refused_reading, reading_of, Read}
 
 -- ---- what the text says
 
@@ -48,26 +32,13 @@ module _ (text : List ℕ) (short : length text ≤ most_bytes) where
   lines_blamed f c q b =
       (said_so (refused b.why b.place) b.is ∙ rw (b.worded.number, b.worded.line), column_so (refused b.why b.place) b.is c (rw q b.worded.column))
 
-  pub head_blamed : (f : Fault) → Blamed text (head_lines 1 (lines text)) f → Blamed text (job_lines 1 (lines text)) f
-  head_blamed f b = record { why = b.why; place = b.place; is = rw b.is; worded = b.worded }
-
-  module _ (h : Head) (place : ℕ) (ls : Lines) (e : head_lines 1 (lines text) ≡ found h place ls) where
-    pub body_blamed : (f : Fault) → Blamed text (body_lines h.edges place ls) f → Blamed text (job_lines 1 (lines text)) f
-    body_blamed f b = record { why = b.why; place = b.place; is = rw (e, b.is); worded = b.worded }
-
-    job_lines_lem : (es : List Edge) (p : ℕ) (ms : Lines) → body_lines h.edges place ls ≡ found es p ms → job_lines 1 (lines text) ≡ found (job_of h es) p ms
-    job_lines_lem es p ms f = rw (e, f)
-
-    pub job_said : (es : List Edge) (p : ℕ) (ms : Lines) → body_lines h.edges place ls ≡ found es p ms → (read_job text ≡ job (job_of h es)) × (Column text 0)
-    job_said es p ms f = (said_so (found (job_of h es) p ms) (job_lines_lem es p ms f), column_so (found (job_of h es) p ms) (job_lines_lem es p ms f) 0 refl)
+  -- a job's lines are the text's
+  pub job_said : (h : Head) (es : List Edge) (p : ℕ) (ms : Lines) → job_lines 1 (lines text) ≡ found (job_of h es) p ms → (read_job text ≡ job (job_of h es)) × (Column text 0)
+  job_said h es p ms e = (said_so (found (job_of h es) p ms) e, column_so (found (job_of h es) p ms) e 0 refl)
 
 -- a text that is too long has no column
 pub long_column : (text : List ℕ) → most_bytes < length text → Column text 0
 long_column text l = rw (lt-ltb most_bytes (length text) l)
-
--- a fault's column is small
-pub column_small : {A : Type 0} {text : List ℕ} {said : Found A} {f : Fault} → length text ≤ most_bytes → Blamed text said f → f.column ≤ suc most_bytes
-column_small l b = omega (arith, b.worded.short)
 
 -- ---- what the reader gives for it
 

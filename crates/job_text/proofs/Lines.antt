@@ -1,25 +1,33 @@
 -- The line at a place of the text, and its key. Assumes nothing.
-use mathlib.Core.Path.{◌≡◌, refl, sym, ap, subst, ◌∙◌}
-use mathlib.Core.Bool.{Bool, true, false, false≢true}
+use mathlib.Core.Path.{◌≡◌, refl, ap, subst, ◌∙◌}
+use mathlib.Core.Bool.{Bool, true, false, ◌&&◌}
+use lib.Dec.{eqb}
+use lib.Pointwise.{pointwise}
+use Rattle.std.proofs.lemmas.Bool.Decides.{nat_tests}
 use mathlib.Core.List.{List, [], ◌∷◌}
 use mathlib.Core.Option.{Option, some}
-use Prim.Native.Nat.{ℕ, zero, suc, ◌+◌, ◌-◌, ◌≤◌, ◌<◌, zero-le}
+use Prim.Native.Nat.{ℕ, zero, suc, ◌+◌, ◌-◌, ◌≤◌, ◌<◌}
 use native.Mathlib.Omega.{arith}
 use lib.ListN.{length, take, drop, length-take, length-drop}
-use lib.Seq.{drop-drop, take-take, take_all, take-nil, drop-nil}
+use lib.Seq.{drop-drop, take-nil, drop-nil}
 use Rattle.table.specs.Row.{part}
+use Rattle.std.specs.List.{starts_with}
+use Rattle.std.specs.Prelude.{Result, Ok, Err}
 use Rattle.job_values.specs.Column.{given}
 use Rattle.job_values.specs.inner.Field.{Within}
-use Rattle.job_values.specs.declared.value.NeedList.{NeedList}
-use Rattle.job_values.specs.inner.Told.{Unformed, ListBy, ListAt}
+use Rattle.job_values.specs.inner.Told.{Unformed, ValueAs}
 use Rattle.job_values.proofs.Fields.{within_on}
-use Rattle.job_values.proofs.Columns.{unformed_wrong}
+use Rattle.job_values.specs.inner.Field.{FieldAt}
+use Rattle.job_values.specs.declared.field.Run.{Run}
+use Rattle.job_values.proofs.Columns.{unformed_wrong, number_said, number_unformed}
+use Rattle.job_text.specs.Value.{number}
 use Rattle.job_text.specs.Text.{newline, line, lines, same, begins, ahead, FirstAt}
 use Rattle.job_text.specs.declared.line.Span.{Span}
 use Rattle.job_text.specs.declared.line.Fault.{Fault}
-use Rattle.job_text.specs.Job.{Keyed, missing, value, keyed, absent, unformed, large, ColumnOf, says, formed, asked, found, placed, unlimited, left_out, perhaps}
-use Rattle.job_text.specs.Given.{no_span, Standing, SpanAt, fault_at, LineBlamed, Blamed}
-use Rattle.job_text.proofs.Text.{lines_cut, lines_uncut, unended, same_length}
+use Rattle.job_text.specs.declared.line.LineStart.{LineStart}
+use Rattle.job_text.specs.Job.{Keyed, missing, keyed, unformed, large, ColumnOf, asked, Found, found, placed, next, unlimited, left_out, perhaps}
+use Rattle.job_text.specs.Given.{Standing, SaidAs, from_line, line_says, fault_at, Blamed}
+use Rattle.job_text.proofs.Text.{lines_cut, lines_uncut, unended}
 
 drop_take : (k n : ℕ) (xs : List ℕ) → drop k (take n xs) ≡ take (n - k) (drop k xs)
 drop_take k n [] = rw (take-nil {A = ℕ} n, drop-nil {A = ℕ} k, take-nil {A = ℕ} (n - k))
@@ -46,139 +54,111 @@ module _ (text : List ℕ) (at e : ℕ) (f : FirstAt text at newline e) where
       ∙ rw (drop-drop (suc (ahead newline (drop at text))) at text, b, a)
 
   module _ (key : List ℕ) (l : e < length text) where
-    -- the line is shorter than the key
-    pub line_short : e < at + length key → keyed key (lines (drop at text)) ≡ missing
-    line_short s =
-        let n : length (part at e text) ≡ e - at = omega (arith, length-take (e - at) (drop at text), length-drop at text) in
-        rw (
-          line_at l,
-          take_all (length key) (part at e text) (omega arith),
-          same_length (part at e text) key (λ (q : length (part at e text) ≡ length key). omega (arith, f.low)),
-        )
-
     -- what stands where the key should decides
-    key_here : at + length key ≤ e → begins key (part at e text) ≡ same (part at (at + length key) text) key
-    key_here h =
-        let n : at + length key - at ≡ length key = omega arith in
-        rw (take-take (length key) (e - at) (drop at text) (omega arith), n)
-
-    pub line_other : at + length key ≤ e → same (part at (at + length key) text) key ≡ false → keyed key (lines (drop at text)) ≡ missing
-    line_other h s = rw (line_at l, key_here h, s)
-
-    pub line_found : at + length key ≤ e → same (part at (at + length key) text) key ≡ true
-        → keyed key (lines (drop at text)) ≡ value (part (at + length key) e text) (lines (drop (e + 1) text))
-    line_found h s =
-        let n : e - at - length key ≡ e - (at + length key) = omega arith in
-        rw (line_at l, key_here h, s, drop_take (length key) (e - at) (drop at text), drop-drop (length key) at text, n)
+    pub line_other : begins key (part at e text) ≡ false → keyed key (lines (drop at text)) ≡ missing
+    line_other s = rw (line_at l, s)
 
     -- the value from behind the key on
-    pub line_standing : (r : Span) → r ≡ record { found = true; from = at + length key; end = e } → at + length key ≤ e → Standing text at key r
-    line_standing r q h =
+    pub line_standing : length key ≤ length (part at e text) → begins key (part at e text) ≡ true → Standing text at key (record { from = at + length key; end = e })
+    line_standing h s =
         let w : Within text at e = record { ordered = f.low; ends = l; first = omega (arith, f.place) } in
-        rw q (record { behind = refl; within = within_on text at e w (at + length key) (omega arith) h })
+        let n : e - at - length key ≡ e - (at + length key) = omega arith in
+        let long : at + length key ≤ e = omega (arith, length-take (e - at) (drop at text), f.low, h) in
+        record {
+          behind = refl;
+          within = within_on text at e w (at + length key) (omega arith) long;
+          is = rw (line_at l, s, drop_take (length key) (e - at) (drop at text), drop-drop (length key) at text, n);
+        }
 
--- what is found where a line is missing
-pub span_missing : (text : List ℕ) (at : ℕ) (key : List ℕ) (r : Span) → r ≡ no_span → keyed key (lines (drop at text)) ≡ missing → SpanAt text at key r
-span_missing text at key r e m = rw e (record { ends = zero-le; is = sym m; there = λ t. absurd (false≢true t) })
+-- the library's word for it
+swap : (xs ys : List ℕ) → pointwise eqb ys xs ≡ same xs ys
+unfolding same
+swap [] [] = refl
+swap [] (y ∷ ys) = refl
+swap (x ∷ xs) [] = refl
+swap (x ∷ xs) (y ∷ ys) =
+    let e : eqb y x ≡ eqb x y = grind (arith, nat_tests) in
+    rw e (ap (λ (b : Bool). eqb x y && b) (swap xs ys))
+
+pub begins_is : (key xs : List ℕ) → starts_with eqb xs key ≡ begins key xs
+begins_is key xs = swap (take (length key) xs) key
 
 -- ---- what a line says, by what was found of it
 
-module _ (text : List ℕ) (at : ℕ) (key : List ℕ) (r : Span) (s : SpanAt text at key r) where
-  -- where the value begins, and where it goes wrong, is within the text
-  pub from_fits : r.found ≡ true → (at ≤ r.from) × (r.from < length text)
-  from_fits t = let w = s.there t in (omega (arith, w.behind), omega (arith, w.within.ordered, w.within.ends))
-
-  pub wrong_fits : {A : Type 0} (form : List ℕ → Option A) (e : ℕ) → r.found ≡ true → Unformed form text r.from r.end e → (at ≤ e) × (e < length text)
-  wrong_fits form e t u = let w = s.there t in (omega (arith, w.behind, u.lost.ordered), omega (arith, u.lost.ends, w.within.ends))
-
+module _ (text : List ℕ) (start : LineStart) (key : List ℕ) (r : Span) (s : Standing text start.at key r) where
   module _ {A : Type 0} (form : List ℕ → Option A) (over : A → Bool) where
-    asked_there : r.found ≡ true
-        → asked key form over (lines (drop at text))
-        ≡ formed key form over (part r.from r.end text) (form (part r.from r.end text)) (lines (drop (r.end + 1) text))
-    asked_there t = rw (← s.is, t)
+    -- 22
+    line_malformed : (e : ℕ) → Unformed form text r.from r.end e → (said : Found A) → said ≡ placed start.line (asked key form over (lines (drop start.at text)))
+        → Blamed text said (fault_at 22 start.line (suc (e - start.at)))
+    line_malformed e u said q =
+        let why = unformed key (λ v. given (form v)) (part r.from r.end text) in
+        let c : suc (length key + (e - r.from)) ≡ suc (e - start.at) = omega (arith, s.behind, u.lost.ordered) in
+        record {
+          why = why;
+          place = start.line;
+          is = q ∙ rw (s.is, u.none_said);
+          worded =
+              record {
+                number = refl;
+                line = refl;
+                column = subst (ColumnOf why) c (unformed_wrong key form text r.from r.end e s.within u);
+                short = omega (arith, u.lost.ends, s.within.ends);
+              };
+        }
 
-    module _ (place : ℕ) (f : Fault) where
-      -- 21
-      pub asked_missing : r.found ≡ false → f ≡ fault_at 21 place 1 → LineBlamed text (asked key form over (lines (drop at text))) place f
-      asked_missing t e =
-          record {
-            why = absent;
-            is = rw (← s.is, t);
-            worded =
-                record {
-                  number = ap (λ (x : Fault). x.number) e;
-                  line = ap (λ (x : Fault). x.line) e;
-                  column = ap (λ (x : Fault). x.column) e;
-                  short = omega (arith, ap (λ (x : Fault). x.column) e);
-                };
-          }
+    -- 23
+    pub line_above : (a : A) → form (part r.from r.end text) ≡ some a → over a ≡ true
+        → Blamed text (from_line text start (next (asked key form over))) (fault_at 23 start.line (suc (r.from - start.at)))
+    line_above a q o =
+        record {
+          why = large key;
+          place = start.line;
+          is = rw (s.is, q, o);
+          worded =
+              record {
+                number = refl;
+                line = refl;
+                column = omega (arith, s.behind);
+                short = omega (arith, s.within.ordered, s.within.ends);
+              };
+        }
 
-      -- 22
-      pub asked_malformed : r.found ≡ true → (w : ℕ) → Unformed form text r.from r.end w → f ≡ fault_at 22 place (suc (w - at))
-          → LineBlamed text (asked key form over (lines (drop at text))) place f
-      asked_malformed t w u e =
-          let there = s.there t in
-          let why = unformed key (λ v. given (form v)) (part r.from r.end text) in
-          let c : suc (length key + (w - r.from)) ≡ f.column = omega (arith, ap (λ (x : Fault). x.column) e, there.behind, u.lost.ordered) in
-          record {
-            why = why;
-            is = asked_there t ∙ rw u.none_said;
-            worded =
-                record {
-                  number = ap (λ (x : Fault). x.number) e;
-                  line = ap (λ (x : Fault). x.line) e;
-                  column = subst (ColumnOf why) c (unformed_wrong key form text r.from r.end w there.within u);
-                  short = omega (arith, ap (λ (x : Fault). x.column) e, u.lost.ends, there.within.ends);
-                };
-          }
+    pub line_found_says : (a : A) → form (part r.from r.end text) ≡ some a → over a ≡ false
+        → from_line text start (next (asked key form over)) ≡ found a (start.line + 1) (lines (drop (r.end + 1) text))
+    line_found_says a e o = rw (s.is, e, o)
 
-      -- 23
-      pub asked_above : r.found ≡ true → (a : A) → form (part r.from r.end text) ≡ some a → over a ≡ true → f ≡ fault_at 23 place (suc (r.from - at))
-          → LineBlamed text (asked key form over (lines (drop at text))) place f
-      asked_above t a q o e =
-          let there = s.there t in
-          record {
-            why = large key;
-            is = asked_there t ∙ rw (q, o);
-            worded =
-                record {
-                  number = ap (λ (x : Fault). x.number) e;
-                  line = ap (λ (x : Fault). x.line) e;
-                  column = omega (arith, ap (λ (x : Fault). x.column) e, there.behind);
-                  short = omega (arith, ap (λ (x : Fault). x.column) e, there.within.ordered, there.within.ends);
-                };
-          }
+  -- ---- a line with a number
 
-    pub asked_says : (a : A) → r.found ≡ true → form (part r.from r.end text) ≡ some a → over a ≡ false
-        → asked key form over (lines (drop at text)) ≡ says a (lines (drop (r.end + 1) text))
-    asked_says a t e o = asked_there t ∙ rw (e, o)
+  module _ (over : ℕ → Bool) where
+    pub number_line_lost : (read : Result Run ℕ) → FieldAt newline number text r.from r.end read → (f : Fault) → Err f ≡ line_says start r read
+        → Blamed text (from_line text start (next (asked key number over))) f
+    number_line_lost (Ok run) v f e = cc
+    number_line_lost (Err w) l f e =
+        let q : f ≡ fault_at 22 start.line (suc (w - start.at)) = cc in
+        rw q (line_malformed number over w (number_unformed text r.from r.end s.within w l) (from_line text start (next (asked key number over))) refl)
 
--- ---- what the needs' reader says
+  pub number_line_got : (read : Result Run ℕ) → FieldAt newline number text r.from r.end read → (run : Run) (behind : LineStart) → Ok (run, behind) ≡ line_says start r read
+      → (number (part r.from r.end text) ≡ some run.value) × (behind ≡ record { at = r.end + 1; line = start.line + 1 })
+  number_line_got (Ok got) v run behind e =
+      let both : (run, behind) ≡ (got, record { at = r.end + 1; line = start.line + 1 }) = cc in
+      let q : run ≡ got = ap (λ (p : Run × LineStart). p.0) both in
+      (rw q (number_said text r.from r.end s.within got.value got.next v), ap (λ (p : Run × LineStart). p.1) both)
+  number_line_got (Err w) l run behind e = cc
 
-module _ (form : List ℕ → Option (List ℕ)) (text : List ℕ) (at end : ℕ) (l : NeedList) (s : ListAt form text at end l) where
-  pub list_wrong : l.formed ≡ false → Unformed form text at end l.wrong
-  list_wrong t = subst (λ (b : Bool). ListBy b form text at end l) t s
+  -- ---- a line whose value has no limit, that must be there or may be left out
 
-  pub list_right : l.formed ≡ true → form (part at end text) ≡ some l.needs
-  list_right t = subst (λ (b : Bool). ListBy b form text at end l) t s
+  module _ {A B : Type 0} (in_words : B → A) (form : List ℕ → Option A) where
+    line_read : (read : Result B ℕ) → ValueAs in_words form text r.from r.end read → (said : Found A)
+        → said ≡ placed start.line (asked key form unlimited (lines (drop start.at text))) → SaidAs in_words text said (line_says start r read)
+    line_read (Ok b) v said q = q ∙ line_found_says form unlimited (in_words b) v refl
+    line_read (Err e) u said q = line_malformed form unlimited e u said q
 
--- ---- a line that may be left out
+    pub asked_line : (read : Result B ℕ) → ValueAs in_words form text r.from r.end read
+        → SaidAs in_words text (from_line text start (next (asked key form unlimited))) (line_says start r read)
+    asked_line read v = line_read read v (from_line text start (next (asked key form unlimited))) refl
 
-module _ {A : Type 0} (form : List ℕ → Option A) (a : A) (text : List ℕ) (at place : ℕ) (key : List ℕ) (r : Span) (s : SpanAt text at key r) where
-  pub perhaps_missing : r.found ≡ false → perhaps key form a place (lines (drop at text)) ≡ found a place (lines (drop at text))
-  perhaps_missing t = rw (← s.is, t)
-
-  perhaps_there : r.found ≡ true → perhaps key form a place (lines (drop at text)) ≡ placed place (asked key form unlimited (lines (drop at text)))
-  perhaps_there t =
-      let e : keyed key (lines (drop at text)) ≡ value (part r.from r.end text) (lines (drop (r.end + 1) text)) = sym s.is ∙ rw t in
-      ap (λ (k : Keyed). left_out a (asked key form unlimited) k place (lines (drop at text))) e
-
-  pub perhaps_malformed : r.found ≡ true → (w : ℕ) → Unformed form text r.from r.end w → (f : Fault) → f ≡ fault_at 22 place (suc (w - at))
-      → Blamed text (perhaps key form a place (lines (drop at text))) f
-  perhaps_malformed t w u f e =
-      let b = asked_malformed text at key r s form unlimited place f t w u e in
-      record { why = b.why; place = place; is = perhaps_there t ∙ ap (placed place) b.is; worded = b.worded }
-
-  pub perhaps_says : (b : A) → r.found ≡ true → form (part r.from r.end text) ≡ some b
-      → perhaps key form a place (lines (drop at text)) ≡ found b (place + 1) (lines (drop (r.end + 1) text))
-  perhaps_says b t e = perhaps_there t ∙ ap (placed place) (asked_says text at key r s form unlimited b t e refl)
+    pub perhaps_line : (a : A) (read : Result B ℕ) → ValueAs in_words form text r.from r.end read
+        → SaidAs in_words text (from_line text start (perhaps key form a)) (line_says start r read)
+    perhaps_line a read v =
+        line_read read v (from_line text start (perhaps key form a))
+        (ap (λ (k : Keyed). left_out a (asked key form unlimited) k start.line (lines (drop start.at text))) s.is)

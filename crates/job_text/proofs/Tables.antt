@@ -1,18 +1,19 @@
 -- What the tables hold once a text was read: the parts of them that are as long as the edges are many are the job's edges. Assumes nothing.
+use Rattle.table.specs.Refusal.{refused}
+use Rattle.std.specs.Prelude.{Ok}
 use mathlib.Core.Path.{◌≡◌, ap, ◌∙◌}
 use mathlib.Core.List.{List, map}
 use Prim.Native.Nat.{ℕ, ◌-◌, ◌≤◌}
 use native.Mathlib.Omega.{arith}
 use lib.ListN.{length, take, drop, replicate, length-append, length-map}
 use lib.Seq.{take-append_seam}
-use Rattle.table.specs.declared.Finding.TheVariants.{Sound, Refused}
 use Rattle.job_text.specs.declared.reader.Reading.{Reading}
 use Rattle.job_text.specs.Value.{Edge, pad_to}
 use Rattle.job_text.specs.Job.{most_job_edges, Outcome, job, fault, read_job}
 use Rattle.job_text.specs.Reading.{reading_of, cells_of, Read}
 
 -- a refusal is no finding that all is sound
-pub unlike : {number place : ℕ} → Refused number place ≡ Sound → ⊥
+pub unlike : {number place : ℕ} → refused {A = Unit {0}} number place ≡ Ok tt → ⊥
 unlike e = let z : ◌≡◌ {A = ℕ} 0 1 = cc in omega arith
 
 -- the part of a table that is handed on is the edges' numbers

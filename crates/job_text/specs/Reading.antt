@@ -1,68 +1,39 @@
 -- What the reader gives for a text, and what its tables hold (docs/RULES.md, "What comes back": "A refusal gives its number and place, and changes no lent
 -- cell"; "a lent output has zeros from the end of what is written to its own end"). Assumes nothing.
-use Rattle.std.specs.Prelude.{◌≡◌, List, [], map, ℕ, ◌+◌, ◌≤◌, length, drop}
+use Rattle.std.specs.Prelude.{◌≡◌, List, [], map, ℕ, ◌+◌, ◌≤◌, length, Result, Ok, Err}
 use Rattle.table.specs.declared.Acceptance.TheVariants as acceptance
-use Rattle.table.specs.declared.Finding.TheVariants.{Sound, Refused}
-use Rattle.job_values.specs.declared.value.Kind.TheVariants.{Buchi}
+use Rattle.table.specs.Refusal.{refused}
 use Rattle.job_text.specs.declared.line.Fault.{Fault}
-use Rattle.job_text.specs.declared.line.NumberLine.{NumberLine}
-use Rattle.job_text.specs.declared.line.NumberLine.TheVariants as number_line
-use Rattle.job_text.specs.declared.line.EdgeLine.{EdgeLine}
-use Rattle.job_text.specs.declared.line.EdgeLine.TheVariants as edge_line
-use Rattle.job_text.specs.declared.line.Step.{Step}
-use Rattle.job_text.specs.declared.line.Step.TheVariants as step
+use Rattle.job_text.specs.declared.line.LineStart.{LineStart}
 use Rattle.job_text.specs.declared.reader.Reading.{Reading}
-use Rattle.job_text.specs.declared.reader.Ending.{Ending}
-use Rattle.job_text.specs.declared.reader.Ending.TheVariants as ending
 use Rattle.job_text.specs.declared.reader.Head.{Head as HeadRead}
-use Rattle.job_text.specs.declared.reader.Edges.{Edges}
-use Rattle.job_text.specs.declared.reader.Edges.TheVariants as edges
 use Rattle.job_text.specs.Text.{Lines, lines}
 use Rattle.job_text.specs.Value.{Edge, pad_to, padded}
-use Rattle.job_text.specs.Job.{Found, found, Head, most_job_edges, edge_lines, body_lines, Outcome, job, fault, read_job, Column}
-use Rattle.job_text.specs.Given.{fault_at, Blamed}
-
--- ---- a line's fault
-
-abbrev pub no_fault : Fault
-no_fault = fault_at 0 0 0
-
-abbrev pub number_fault : NumberLine → Fault
-number_fault (number_line.Value n next) = no_fault
-number_fault (number_line.Fault f) = f
-
-abbrev pub edge_fault : EdgeLine → Fault
-edge_fault (edge_line.Edge from to marks next) = no_fault
-edge_fault (edge_line.Fault f) = f
-
-abbrev pub step_fault : Step → Fault
-step_fault (step.Next next) = no_fault
-step_fault (step.Fault f) = f
+use Rattle.job_text.specs.Job.{Found, found, Reader, Head, most_job_edges, edge_lines, body_lines, Job, job_of, job_lines, Outcome, job, fault, read_job, Column}
+use Rattle.job_text.specs.Given.{Blamed, from_line, SaysTo}
 
 -- ---- the lines before the edges
 
-abbrev pub HeadBy : Ending → List ℕ → Found Head → HeadRead → Type 0
-HeadBy ending.Sound text said h =
-    said
-    ≡ found (record { states = h.states; start = h.start; kind = h.kind; count = h.count; needs = h.needs; edges = h.edges })
-    h.line (lines (drop h.next text))
-HeadBy (ending.Refused f) text said h = Blamed text said f
+abbrev pub head_of : HeadRead → Head
+head_of h = record { states = h.states; start = h.start; kind = h.kind; count = h.count; needs = h.needs; edges = h.edges }
 
-pub record HeadAt (text : List ℕ) (said : Found Head) (h : HeadRead) : Type 0 where
-  pub is : HeadBy h.ending text said h
+-- the lines say this head, and the edges begin there
+pub record HeadTold (text : List ℕ) (said : Found Head) (h : HeadRead) (next : LineStart) : Type 0 where
+  pub is : SaysTo text said (head_of h) next
   pub few : h.edges ≤ most_job_edges
-  pub early : h.line ≤ 8
+  pub early : next.line ≤ 8
 
-abbrev pub refused_head : Fault → HeadRead
-refused_head f =
-    record { ending = ending.Refused f; states = 0; start = 0; kind = Buchi; count = 0; needs = padded []; edges = 0; next = 0; line = 0 }
+abbrev pub HeadAs : List ℕ → Found Head → Result (HeadRead × LineStart) Fault → Type 0
+HeadAs text said (Ok r) = HeadTold text said r.0 r.1
+HeadAs text said (Err f) = Blamed text said f
+
+abbrev pub HeadAt : List ℕ → Reader Head → LineStart → Result (HeadRead × LineStart) Fault → Type 0
+HeadAt text read start r = HeadAs text (from_line text start read) r
 
 -- ---- the edge lines and what follows them
 
 -- tables that nothing is written in yet
-pub record Blank (edges line : ℕ) (from to marks : List ℕ) : Type 0 where
-  pub few : edges ≤ most_job_edges
-  pub early : line ≤ 8
+pub record Blank (from to marks : List ℕ) : Type 0 where
   pub from_blank : from ≡ pad_to most_job_edges []
   pub to_blank : to ≡ pad_to most_job_edges []
   pub marks_blank : marks ≡ pad_to most_job_edges []
@@ -82,15 +53,17 @@ pub record Told (said : Found (List Edge)) (count : ℕ) (from to marks : List �
   pub read : said ≡ found given place rest
   pub held : Held given from to marks
 
-pub record EdgesTold (text : List ℕ) (at line count next : ℕ) (from to marks : List ℕ) : Type 0 where
+-- and the next line begins there
+pub record EdgesTold (text : List ℕ) (said : Found (List Edge)) (count : ℕ) (next : LineStart) (from to marks : List ℕ) : Type 0 where
   pub given : List Edge
   pub many : length given ≡ count
-  pub read : edge_lines count line (lines (drop at text)) ≡ found given (line + count) (lines (drop next text))
+  pub read : SaysTo text said given next
   pub held : Held given from to marks
+  pub early : next.line ≤ 8 + most_job_edges
 
-abbrev pub EdgesAt : List ℕ → ℕ → ℕ → ℕ → List ℕ → List ℕ → List ℕ → Edges → Type 0
-EdgesAt text at line count from to marks (edges.Next next) = EdgesTold text at line count next from to marks
-EdgesAt text at line count from to marks (edges.Refused f) = Blamed text (edge_lines count line (lines (drop at text))) f
+abbrev pub EdgesAt : List ℕ → LineStart → ℕ → List ℕ → List ℕ → List ℕ → Result LineStart Fault → Type 0
+EdgesAt text start count from to marks (Ok next) = EdgesTold text (from_line text start (edge_lines count)) count next from to marks
+EdgesAt text start count from to marks (Err f) = Blamed text (from_line text start (edge_lines count)) f
 
 -- some lines say something
 pub record Heard {A : Type 0} (said : Found A) : Type 0 where
@@ -99,24 +72,39 @@ pub record Heard {A : Type 0} (said : Found A) : Type 0 where
   pub rest : Lines
   pub is : said ≡ found what place rest
 
-abbrev pub EndedAt : {A : Type 0} → List ℕ → Found A → Ending → Type 0
-EndedAt text said ending.Sound = Heard said
-EndedAt text said (ending.Refused f) = Blamed text said f
+abbrev pub EndedAt : {A : Type 0} → List ℕ → Found A → Result (Unit {0}) Fault → Type 0
+EndedAt text said (Ok u) = Heard said
+EndedAt text said (Err f) = Blamed text said f
 
-abbrev pub BodyAt : List ℕ → ℕ → ℕ → ℕ → List ℕ → List ℕ → List ℕ → Ending → Type 0
-BodyAt text at line count from to marks ending.Sound = Told (body_lines count line (lines (drop at text))) count from to marks
-BodyAt text at line count from to marks (ending.Refused f) = Blamed text (body_lines count line (lines (drop at text))) f
+abbrev pub BodyAt : List ℕ → LineStart → ℕ → List ℕ → List ℕ → List ℕ → Result (Unit {0}) Fault → Type 0
+BodyAt text start count from to marks (Ok u) = Told (from_line text start (body_lines count)) count from to marks
+BodyAt text start count from to marks (Err f) = Blamed text (from_line text start (body_lines count)) f
+
+-- ---- the lines of a job
+
+-- they say a job with this head, and the tables hold its edges
+pub record LinesTold (said : Found Job) (h : HeadRead) (from to marks : List ℕ) : Type 0 where
+  pub given : List Edge
+  pub many : length given ≡ h.edges
+  pub place : ℕ
+  pub rest : Lines
+  pub read : said ≡ found (job_of (head_of h) given) place rest
+  pub held : Held given from to marks
+
+abbrev pub LinesAt : List ℕ → List ℕ → List ℕ → List ℕ → Result HeadRead Fault → Type 0
+LinesAt text from to marks (Ok h) = LinesTold (job_lines 1 (lines text)) h from to marks
+LinesAt text from to marks (Err f) = Blamed text (job_lines 1 (lines text)) f
 
 -- ---- the whole text
 
 abbrev pub refused_reading : ℕ → ℕ → ℕ → Reading
 refused_reading number place column =
-    record { finding = Refused number place; column = column; states = 0; start = 0; condition = acceptance.Buchi 0; needs = padded []; edges = 0 }
+    record { finding = refused number place; column = column; states = 0; start = 0; condition = acceptance.Buchi 0; needs = padded []; edges = 0 }
 
 -- what is given for a text that says this, with a column
 abbrev pub reading_of : Outcome → ℕ → Reading
 reading_of (job j) column =
-    record { finding = Sound; column = column; states = j.states; start = j.start; condition = j.condition; needs = j.needs; edges = length j.edges }
+    record { finding = Ok tt; column = column; states = j.states; start = j.start; condition = j.condition; needs = j.needs; edges = length j.edges }
 reading_of (fault number place) column = refused_reading number place column
 
 -- a table's cells afterwards, by what they were: the edges' numbers and zeros after them; or as they were

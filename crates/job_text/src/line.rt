@@ -1,19 +1,18 @@
 // The lines of the job text: each is found by its key at a place of the text, and its value is read. A fault carries its line and its column. Relies on the
 // crate `job_values`.
-ghost use Rattle.std.specs.Prelude.{◌≡◌, suc, ◌-◌, ◌≤◌, ◌<◌, length, drop};
-ghost use Rattle.job_text.specs.Text.{lines};
+ghost use Rattle.std.specs.Prelude.{◌≡◌, suc, ◌+◌, ◌-◌, ◌≤◌, ◌<◌, length, IfOk, IfErr};
+ghost use Rattle.job_values.specs.inner.Told.{edge_in_words};
 ghost use Rattle.job_text.specs.Value.{number, edge, needs, end, most_count};
-ghost use Rattle.job_text.specs.Job.{asked, above, unlimited, need=, edge=, end=, form_line, kind_line};
-ghost use Rattle.job_text.specs.Given.{no_span, SpanAt, fault_at, need_fault, NumberAt, FormAt, KindAt, NeedAt, EdgeAt, EndAt};
+ghost use Rattle.job_text.specs.Job.{next, asked, above, unlimited, need=, edge=, end=, form_line, kind_line};
+ghost use Rattle.job_text.specs.Given.{SpanAt, fault_at, AskedAt, line_says, from_line, SaidAs, ReadAt};
 
-use job_values::field::{Field, number_field};
-use job_values::part::{alike, find};
+use job_values::field::number_field;
+use job_values::part::find;
 use job_values::value::{
-    EdgeValue, Form, FormValue, Kind, KindValue, WordValue, read_edge, read_end, read_form,
-    read_kind, read_needs, usual_kind,
+    Edge, Form, Kind, read_edge, read_end, read_form, read_kind, read_needs, usual_kind,
 };
 
-const NEWLINE: u8 = 10;
+const NEWLINE: u8 = b'\n';
 
 // Rows 21 to 23.
 const MISSING: u32 = 21;
@@ -22,10 +21,16 @@ const MALFORMED: u32 = 22;
 
 const ABOVE: u32 = 23;
 
-// Whether a line is there with its key, and then where its value stands: from the key to the newline byte.
+// Where a line begins, and its number, counted from 1.
+#[derive(Clone, Copy)]
+pub(crate) struct LineStart {
+    pub at: usize,
+    pub line: u32,
+}
+
+// Where a line's value stands: from the key to the newline byte.
 #[derive(Clone, Copy)]
 pub(crate) struct Span {
-    pub found: bool,
     pub from: usize,
     pub end: usize,
 }
@@ -38,82 +43,16 @@ pub(crate) struct Fault {
     pub column: usize,
 }
 
-// What a line with a number says, and where the next one begins; or its fault.
-#[derive(Clone, Copy)]
-pub(crate) enum NumberLine {
-    Value { value: u32, next: usize },
-    Fault(Fault),
-}
-
-#[derive(Clone, Copy)]
-pub(crate) enum EdgeLine {
-    Edge {
-        from: u32,
-        to: u32,
-        marks: u32,
-        next: usize,
-    },
-    Fault(Fault),
-}
-
-// The form and where the next line begins, with that line's number; or the fault.
-#[derive(Clone, Copy)]
-pub(crate) enum FormLine {
-    Form { form: Form, next: usize, line: u32 },
-    Fault(Fault),
-}
-
-// The kind and where the next line begins, with that line's number; or the fault.
-#[derive(Clone, Copy)]
-pub(crate) enum KindLine {
-    Kind { kind: Kind, next: usize, line: u32 },
-    Fault(Fault),
-}
-
-// Where the next line begins, or this one's fault.
-#[derive(Clone, Copy)]
-pub(crate) enum Step {
-    Next { next: usize },
-    Fault(Fault),
-}
-
-// The needs stand beside the step: zeros where the line is at fault.
-#[derive(Clone, Copy)]
-pub(crate) struct NeedLine {
-    pub step: Step,
-    pub needs: [u32; 8],
-}
-
-fn no_span() -> Span
-    ensures { result ≡ no_span }
-{
-    Span {
-        found: false,
-        from: 0,
-        end: 0,
-    }
-}
-
 // The line at `at`, if it is there and has this key.
-pub(crate) fn find_line(text: &[u8], at: usize, key: &[u8]) -> Span
+pub(crate) fn find_line(text: &[u8], at: usize, key: &[u8]) -> Option<Span>
     ensures { SpanAt text.now at key.now result }
 {
     let end = find(text, at, NEWLINE);
-    if text.len() <= end {
-        return no_span();
+    if end < text.len() && text[at..end].starts_with(key) {
+        let from = at + key.len();
+        return Some(Span { from, end });
     }
-    let from = at + key.len();
-    if end < from {
-        return no_span();
-    }
-    if alike(&text[at..from], key) {
-        return Span {
-            found: true,
-            from,
-            end,
-        };
-    }
-    no_span()
+    None
 }
 
 // A line that is missing, at its first byte.
@@ -127,155 +66,137 @@ pub(crate) fn missing(line: u32) -> Fault
     }
 }
 
-// A fault of the line at `at`, at the byte `place` of the text.
-fn fault_at(text: &[u8], number: u32, line: u32, at: usize, place: usize) -> Fault
-    requires { (at ≤ place) × (place < length text.now) }
-    ensures { result ≡ fault_at number line (suc (place - at)) }
+// A fault of a line, at the byte `place` of the text.
+fn fault_at(text: &[u8], number: u32, start: LineStart, place: usize) -> Fault
+    requires { (start.at ≤ place) × (place < length text.now) }
+    ensures { result ≡ fault_at number start.line (suc (place - start.at)) }
 {
     Fault {
         number,
-        line,
-        column: place - at + 1,
+        line: start.line,
+        column: place - start.at + 1,
     }
 }
 
-// A line with a number of at most `most`; `line` is its number.
-pub(crate) fn number_line(text: &[u8], at: usize, line: u32, key: &[u8], most: u32) -> NumberLine
-    ensures { NumberAt text.now (asked key.now number (above most) (lines (drop at text.now))) line result }
+// The line that must be there with this key, or that it is missing.
+fn ask_line(text: &[u8], start: LineStart, key: &[u8]) -> Result<Span, Fault>
+    ensures { AskedAt text.now start key.now result }
 {
-    let span = find_line(text, at, key);
-    if !span.found {
-        return NumberLine::Fault(missing(line));
+    match find_line(text, start.at, key) {
+        Some(span) => Ok(span),
+        None => Err(missing(start.line)),
     }
-    let from = span.from;
-    let end = span.end;
-    match number_field(text, from, end, NEWLINE) {
-        Field::Wrong { at: wrong } => NumberLine::Fault(fault_at(text, MALFORMED, line, at, wrong)),
-        Field::Value { value, next: _ } => {
-            if most < value {
-                return NumberLine::Fault(fault_at(text, ABOVE, line, at, from));
-            }
-            NumberLine::Value {
-                value,
-                next: end + 1,
-            }
+}
+
+// What was read behind the key, and where the next line begins; or that the value is malformed where it could not be read on.
+fn line_says<T>(
+    text: &[u8],
+    start: LineStart,
+    span: Span,
+    read: Result<T, usize>,
+) -> Result<(T, LineStart), Fault>
+    requires early { start.line < 65536 }
+    requires inside { span.end < length text.now }
+    requires lost_inside { IfErr read (λ place. (start.at ≤ place) × (place < length text.now)) }
+    ensures { result ≡ line_says start span read }
+{
+    match read {
+        Ok(value) => {
+            let next = LineStart {
+                at: span.end + 1,
+                line: start.line + 1,
+            };
+            Ok((value, next))
         }
+        Err(place) => Err(fault_at(text, MALFORMED, start, place)),
     }
+}
+
+// A line with a number of at most `most`.
+pub(crate) fn number_line(
+    text: &[u8],
+    start: LineStart,
+    key: &[u8],
+    most: u32,
+) -> Result<(u32, LineStart), Fault>
+    requires { start.line < 65536 }
+    ensures read { ReadAt text.now (next (asked key.now number (above most))) start result }
+    ensures one_on { IfOk result (λ r. r.1.line ≡ start.line + 1) }
+{
+    let span = ask_line(text, start, key)?;
+    let field = number_field(text, span.from, span.end, NEWLINE);
+    let (run, next) = line_says(text, start, span, field)?;
+    if most < run.value {
+        return Err(fault_at(text, ABOVE, start, span.from));
+    }
+    Ok((run.value, next))
 }
 
 // The form's line, which may be left out: the first one.
-pub(crate) fn form_line(text: &[u8]) -> FormLine
-    ensures { FormAt text.now (form_line 1 (lines text.now)) result }
+pub(crate) fn form_line(text: &[u8], start: LineStart) -> Result<(Form, LineStart), Fault>
+    requires { start.line < 65536 }
+    ensures read { ReadAt text.now form_line start result }
+    ensures one_on { IfOk result (λ r. r.1.line ≤ start.line + 1) }
 {
-    let span = find_line(text, 0, b"form=");
-    if !span.found {
-        return FormLine::Form {
-            form: Form::One,
-            next: 0,
-            line: 1,
-        };
-    }
-    let end = span.end;
-    match read_form(text, span.from, end) {
-        FormValue::Wrong { at: wrong } => FormLine::Fault(fault_at(text, MALFORMED, 1, 0, wrong)),
-        FormValue::Form(form) => FormLine::Form {
-            form,
-            next: end + 1,
-            line: 2,
-        },
-    }
+    let Some(span) = find_line(text, start.at, b"form=") else {
+        return Ok((Form::One, start));
+    };
+    line_says(text, start, span, read_form(text, span.from, span.end))
 }
 
-// The kind line, which may be left out; `line` is its number.
-pub(crate) fn kind_line(text: &[u8], at: usize, line: u32, form: Form) -> KindLine
-    requires { line < 65536 }
-    ensures { KindAt text.now (kind_line form line (lines (drop at text.now))) result }
+// The kind line, which may be left out.
+pub(crate) fn kind_line(
+    text: &[u8],
+    start: LineStart,
+    form: Form,
+) -> Result<(Kind, LineStart), Fault>
+    requires { start.line < 65536 }
+    ensures read { ReadAt text.now (kind_line form) start result }
+    ensures one_on { IfOk result (λ r. r.1.line ≤ start.line + 1) }
 {
-    let span = find_line(text, at, b"kind=");
-    if !span.found {
-        return KindLine::Kind {
-            kind: usual_kind(form),
-            next: at,
-            line,
-        };
-    }
-    let end = span.end;
-    match read_kind(text, span.from, end) {
-        KindValue::Wrong { at: wrong } => KindLine::Fault(fault_at(
-            text, MALFORMED, line, at, wrong,
-        )),
-        KindValue::Kind(kind) => KindLine::Kind {
-            kind,
-            next: end + 1,
-            line: line + 1,
-        },
-    }
+    let Some(span) = find_line(text, start.at, b"kind=") else {
+        return Ok((usual_kind(form), start));
+    };
+    line_says(text, start, span, read_kind(text, span.from, span.end))
 }
 
-// A need line at fault.
-fn need_fault(fault: Fault) -> NeedLine
-    ensures { result ≡ need_fault fault }
+// The need line.
+pub(crate) fn need_line(
+    text: &[u8],
+    start: LineStart,
+    kind: Kind,
+    count: u32,
+) -> Result<([u32; 8], LineStart), Fault>
+    requires early { start.line < 65536 }
+    requires count_bound { count ≤ most_count kind }
+    ensures read { ReadAt text.now (next (asked need= (needs kind count) unlimited)) start result }
+    ensures one_on { IfOk result (λ r. r.1.line ≡ start.line + 1) }
 {
-    NeedLine {
-        step: Step::Fault(fault),
-        needs: [0; 8],
-    }
+    let span = ask_line(text, start, b"need=")?;
+    line_says(
+        text,
+        start,
+        span,
+        read_needs(text, span.from, span.end, kind, count),
+    )
 }
 
-// The need line; `line` is its number.
-pub(crate) fn need_line(text: &[u8], at: usize, line: u32, kind: Kind, count: u32) -> NeedLine
-    requires { count ≤ most_count kind }
-    ensures { NeedAt text.now (asked need= (needs kind count) unlimited (lines (drop at text.now))) line result }
+// An edge line.
+pub(crate) fn edge_line(text: &[u8], start: LineStart) -> Result<(Edge, LineStart), Fault>
+    requires { start.line < 65536 }
+    ensures read { SaidAs edge_in_words text.now (from_line text.now start (next (asked edge= edge unlimited))) result }
+    ensures one_on { IfOk result (λ r. r.1.line ≡ start.line + 1) }
 {
-    let span = find_line(text, at, b"need=");
-    if !span.found {
-        return need_fault(missing(line));
-    }
-    let end = span.end;
-    let list = read_needs(text, span.from, end, kind, count);
-    if !list.formed {
-        return need_fault(fault_at(text, MALFORMED, line, at, list.wrong));
-    }
-    let needs = list.needs;
-    NeedLine {
-        step: Step::Next { next: end + 1 },
-        needs,
-    }
+    let span = ask_line(text, start, b"edge=")?;
+    line_says(text, start, span, read_edge(text, span.from, span.end))
 }
 
-// An edge line; `line` is its number.
-pub(crate) fn edge_line(text: &[u8], at: usize, line: u32) -> EdgeLine
-    ensures { EdgeAt text.now (asked edge= edge unlimited (lines (drop at text.now))) line result }
+// The end line.
+pub(crate) fn end_line(text: &[u8], start: LineStart) -> Result<((), LineStart), Fault>
+    requires { start.line < 65536 }
+    ensures read { ReadAt text.now (next (asked end= end unlimited)) start result }
+    ensures one_on { IfOk result (λ r. r.1.line ≡ start.line + 1) }
 {
-    let span = find_line(text, at, b"edge=");
-    if !span.found {
-        return EdgeLine::Fault(missing(line));
-    }
-    let end = span.end;
-    match read_edge(text, span.from, end) {
-        EdgeValue::Wrong { at: wrong } => EdgeLine::Fault(fault_at(
-            text, MALFORMED, line, at, wrong,
-        )),
-        EdgeValue::Edge { from, to, marks } => EdgeLine::Edge {
-            from,
-            to,
-            marks,
-            next: end + 1,
-        },
-    }
-}
-
-// The end line; `line` is its number.
-pub(crate) fn end_line(text: &[u8], at: usize, line: u32) -> Step
-    ensures { EndAt text.now (asked end= end unlimited (lines (drop at text.now))) line result }
-{
-    let span = find_line(text, at, b"end=");
-    if !span.found {
-        return Step::Fault(missing(line));
-    }
-    let end = span.end;
-    match read_end(text, span.from, end) {
-        WordValue::Wrong { at: wrong } => Step::Fault(fault_at(text, MALFORMED, line, at, wrong)),
-        WordValue::Right => Step::Next { next: end + 1 },
-    }
+    let span = ask_line(text, start, b"end=")?;
+    line_says(text, start, span, read_end(text, span.from, span.end))
 }

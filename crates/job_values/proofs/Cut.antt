@@ -7,6 +7,8 @@ use native.Mathlib.Nat.{le_of_suc-le-suc}
 use native.Mathlib.Numerals.{add-one}
 use native.Mathlib.Omega.{arith}
 use lib.Dec.{eqb, leb}
+use lib.Pointwise.{pointwise}
+use Rattle.std.specs.Prelude.{nat_eq}
 use lib.ListN.{length, get_or, take, drop, drop_of_length-le, length-append, length-drop}
 use lib.Seq.{drop-cons, drop-drop, take_all}
 use borrow.Author.Tests.{eq-eqb, ne_eqb, le-leb, lt-leb}
@@ -49,6 +51,9 @@ ahead_end b xs i l = rw (drop_of_length-le xs l)
 -- a search from within ends at the end at the latest
 pub reach : (b : ℕ) (xs : List ℕ) (i : ℕ) → i ≤ length xs → i + ahead b (drop i xs) ≤ length xs
 reach b xs i l = omega (arith, ahead_le b (drop i xs), length-drop i xs)
+
+-- what a search from byte to byte uses
+pub ruleset search_steps = (ahead_hit, ahead_miss, ahead_end, reach)
 
 -- ---- fields
 
@@ -110,23 +115,13 @@ fields_some (x ∷ xs) e =
 
 -- ---- the same bytes
 
-same_step : (xs ys : List ℕ) (i : ℕ) → i < length xs → i < length ys
-    → same (drop i xs) (drop i ys) ≡ (eqb (get_or xs i 0) (get_or ys i 0) && same (drop (i + 1) xs) (drop (i + 1) ys))
+-- the library's word for it
+pub same_pointwise : (xs ys : List ℕ) → pointwise nat_eq xs ys ≡ same xs ys
 unfolding same
-same_step xs ys i l k = rw (drop-cons xs i 0 l, drop-cons ys i 0 k, add-one i)
-
--- the same byte at i: the rest decides
-pub same_more : (xs ys : List ℕ) (i : ℕ) → i < length xs → i < length ys → get_or xs i 0 ≡ get_or ys i 0
-    → same (drop i xs) (drop i ys) ≡ same (drop (i + 1) xs) (drop (i + 1) ys)
-same_more xs ys i l k e = same_step xs ys i l k ∙ rw (eq-eqb (get_or xs i 0) (get_or ys i 0) e)
-
-pub same_other : (xs ys : List ℕ) (i : ℕ) → i < length xs → i < length ys → (get_or xs i 0 ≡ get_or ys i 0 → ⊥)
-    → same (drop i xs) (drop i ys) ≡ false
-same_other xs ys i l k e = same_step xs ys i l k ∙ rw (ne_eqb (get_or xs i 0) (get_or ys i 0) e)
-
-pub same_end : (xs ys : List ℕ) (i : ℕ) → length xs ≤ i → length ys ≤ i → same (drop i xs) (drop i ys) ≡ true
-unfolding same
-same_end xs ys i l k = rw (drop_of_length-le xs l, drop_of_length-le ys k)
+same_pointwise [] [] = refl
+same_pointwise [] (y ∷ ys) = refl
+same_pointwise (x ∷ xs) [] = refl
+same_pointwise (x ∷ xs) (y ∷ ys) = ap (λ (r : Bool). eqb x y && r) (same_pointwise xs ys)
 
 -- lists of two lengths are not the same
 pub same_length : (xs ys : List ℕ) → (length xs ≡ length ys → ⊥) → same xs ys ≡ false

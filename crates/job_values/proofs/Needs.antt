@@ -1,6 +1,6 @@
 -- A list of needs is its fields, each with the byte that ends it; where one of them stops, the list does. Assumes nothing.
 use mathlib.Core.Path.{◌≡◌, refl, sym, ap, subst, ◌∙◌}
-use mathlib.Core.Bool.{Bool, true, false, false≢true}
+use mathlib.Core.Bool.{true, false, false≢true}
 use mathlib.Core.List.{List, [], ◌∷◌, ◌++◌, append_assoc}
 use mathlib.Core.Option.{Option, some, none}
 use Prim.Native.Nat.{ℕ, zero, suc, ◌+◌, ◌-◌, ◌≤◌, ◌<◌, zero-le}
@@ -18,8 +18,8 @@ use Rattle.job_values.specs.Number.{and_then, number}
 use Rattle.job_values.specs.Value.{padded, eight, listed, dash, has_needs, most_count, needs}
 use Rattle.job_values.specs.Column.{given}
 use Rattle.job_values.specs.inner.Field.{Within, Ended, Then, Got, Lost, agree}
-use Rattle.job_values.specs.declared.value.NeedList.{NeedList}
-use Rattle.job_values.specs.inner.Told.{Unformed, ListBy, ListAt}
+use Rattle.std.specs.Prelude.{Result, Ok, Err}
+use Rattle.job_values.specs.inner.Told.{Unformed, ListAt}
 use Rattle.job_values.proofs.Pad.{pad_more}
 use Rattle.job_values.proofs.Cut.{by_test, fields_cut, fields_uncut}
 use Rattle.job_values.proofs.Sets.{Apart, then_apart, stuck_also}
@@ -290,12 +290,10 @@ module _ (k : Kind) (count : ℕ) where
   unfolding needs
   listed_needs t v = rw t
 
-  pub listed_told : has_needs k count ≡ true → (text : List ℕ) (at end : ℕ) (l : NeedList) → ListAt (λ v. eight (listed count (fields v))) text at end l → ListAt (needs k count) text at end l
-  listed_told t text at end l h = go l.formed h
-    where
-      go : (b : Bool) → ListBy b (λ v. eight (listed count (fields v))) text at end l → ListBy b (needs k count) text at end l
-      go true e = sym (listed_needs t (part at end text)) ∙ e
-      go false u = unformed_also (λ v. eight (listed count (fields v))) (needs k count) (λ v. ap given (listed_needs t v)) text at end l.wrong u
+  pub listed_told : has_needs k count ≡ true → (text : List ℕ) (at end : ℕ) (r : Result (List ℕ) ℕ) → ListAt (λ v. eight (listed count (fields v))) text at end r
+      → ListAt (needs k count) text at end r
+  listed_told t text at end (Ok ds) e = sym (listed_needs t (part at end text)) ∙ e
+  listed_told t text at end (Err e) u = unformed_also (λ v. eight (listed count (fields v))) (needs k count) (λ v. ap given (listed_needs t v)) text at end e u
 
   module _ (t : has_needs k count ≡ false) where
     pub dash_needs : (v : List ℕ) → same v dash ≡ true → needs k count v ≡ some (padded [])

@@ -4,7 +4,8 @@ use mathlib.Core.Bool.{Bool, true, false, false≢true, cond}
 use mathlib.Core.Logic.{◌⊎◌, inl, inr, ⊎_elim}
 use mathlib.Core.List.{List, [], ◌∷◌, ◌++◌}
 use mathlib.Core.Option.{Option, some, none}
-use Prim.Native.Nat.{ℕ, suc, ◌+◌, ◌-◌, ◌≤◌}
+use Prim.Native.Nat.{ℕ, suc, ◌+◌, ◌-◌, ◌≤◌, max}
+use Rattle.marks.proofs.Cases.{below}
 use native.Mathlib.Omega.{arith}
 use lib.Dec.{eqb}
 use lib.ListN.{length, take, drop, length-append}
@@ -16,7 +17,8 @@ use Rattle.job_values.specs.Bytes.{newline, ahead, same}
 use Rattle.job_values.specs.Value.{text_form, kind, buchi, streett, rabin, end as end_word, job}
 use Rattle.job_values.specs.Column.{given}
 use Rattle.job_values.specs.inner.Field.{Within, Ended, Stuck, agree}
-use Rattle.job_values.specs.inner.Told.{Unformed, Further}
+use Rattle.job_values.specs.inner.Told.{Unformed, WordAt, EndAt}
+use Rattle.std.specs.Prelude.{Result, Ok, Err}
 use Rattle.job_values.proofs.Cut.{by_test}
 use Rattle.job_values.proofs.Sets.{stuck_grow}
 use Rattle.job_values.proofs.Words.{agree_left, value_long, word_stuck}
@@ -187,24 +189,35 @@ module _ (text : List ℕ) (at end : ℕ) (w : Within text at end) where
   pub end_lost : (e : ℕ) → (same (part at end text) job ≡ false) × (e ≡ at + agree (part at end text) job) → Unformed end_word text at end e
   end_lost e h = only_unformed text at end w end_word e (end_none (part at end text) h.0) job end_given end_only end_free h.1
 
-  module _ (b s r f e : ℕ) (hb : (same (part at end text) buchi ≡ false) × (b ≡ at + agree (part at end text) buchi))
+  pub end_told : (r : Result (Unit {0}) ℕ) → WordAt text at end job r → EndAt text at end r
+  end_told (Ok u) h = end_some (part at end text) h
+  end_told (Err e) h = end_lost e h
+
+  module _ (b s r : ℕ) (hb : (same (part at end text) buchi ≡ false) × (b ≡ at + agree (part at end text) buchi))
       (hs : (same (part at end text) streett ≡ false) × (s ≡ at + agree (part at end text) streett))
-      (hr : (same (part at end text) rabin ≡ false) × (r ≡ at + agree (part at end text) rabin)) (inside : Further s r f) (outside : Further b f e) where
-    kind_all : (u : List ℕ) → given (kind u) ≡ true → (at + agree (part at end text) u ≤ e) × (ahead newline u ≡ length u)
+      (hr : (same (part at end text) rabin ≡ false) × (r ≡ at + agree (part at end text) rabin)) where
+    abbrev furthest : ℕ
+    furthest = max (max b s) r
+
+    kind_all : (u : List ℕ) → given (kind u) ≡ true → (at + agree (part at end text) u ≤ furthest) × (ahead newline u ≡ length u)
     kind_all u g =
-        ⊎_elim (λ (q : u ≡ buchi). rw q (omega (arith, hb.1, outside.first), buchi_free))
-        (λ o.
-        ⊎_elim (λ (q : u ≡ streett). rw q (omega (arith, hs.1, inside.first, outside.second), streett_free))
-        (λ (q : u ≡ rabin). rw q (omega (arith, hr.1, inside.second, outside.second), rabin_free)) o)
+        ⊎_elim (λ (q : u ≡ buchi). rw q (omega (arith, hb.1), buchi_free))
+        (λ (o : (u ≡ streett) ⊎ (u ≡ rabin)).
+        ⊎_elim (λ (q : u ≡ streett). rw q (omega (arith, hs.1), streett_free)) (λ (q : u ≡ rabin). rw q (omega (arith, hr.1), rabin_free)) o)
         (kind_one u g)
 
     none_here : kind (part at end text) ≡ none
     none_here = kind_none (part at end text) hb.0 hs.0 hr.0
 
-    pub kind_lost : Unformed kind text at end e
+    one_of : (furthest ≡ b) ⊎ ((furthest ≡ s) ⊎ (furthest ≡ r))
+    one_of =
+        below (max b s) r (λ l. inr (inr (omega arith)))
+        (λ l. below b s (λ h. inr (inl (omega arith))) (λ h. inl (omega arith)))
+
+    pub kind_lost : Unformed kind text at end (max (max b s) r)
     kind_lost =
-        ⊎_elim (λ (q : e ≡ b). word_unformed text at end w kind e none_here buchi buchi_given (q ∙ hb.1) kind_all)
-        (λ (q : e ≡ f).
-        ⊎_elim (λ (p : f ≡ s). word_unformed text at end w kind e none_here streett streett_given (q ∙ p ∙ hs.1) kind_all)
-        (λ (p : f ≡ r). word_unformed text at end w kind e none_here rabin rabin_given (q ∙ p ∙ hr.1) kind_all) inside.one)
-        outside.one
+        ⊎_elim (λ (q : furthest ≡ b). word_unformed text at end w kind furthest none_here buchi buchi_given (q ∙ hb.1) kind_all)
+        (λ (o : (furthest ≡ s) ⊎ (furthest ≡ r)).
+        ⊎_elim (λ (p : furthest ≡ s). word_unformed text at end w kind furthest none_here streett streett_given (p ∙ hs.1) kind_all)
+        (λ (p : furthest ≡ r). word_unformed text at end w kind furthest none_here rabin rabin_given (p ∙ hr.1) kind_all) o)
+        one_of

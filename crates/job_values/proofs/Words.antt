@@ -169,3 +169,6 @@ module _ (text : List ℕ) (at end : ℕ) (w : Within text at end) (word : List 
           let n : i + 1 ≡ suc i = omega arith in
           let m = agree_more (part at end text) word i (omega (arith, value_long)) h (value_at i l ∙ e) in
           record { few = omega arith; low = omega arith; so_far = rw n (omega (arith, s.so_far, m)) }
+
+-- what going along a word uses
+pub ruleset word_steps = (agrees_none, agrees_end, agrees_done, agrees_stop, agrees_more)

@@ -8,21 +8,14 @@ ghost use Rattle.job_values.specs.Number.{number, hex_word};
 ghost use Rattle.table.specs.Row.{part};
 ghost use Rattle.job_values.specs.inner.Field.{Within, FieldAt, RunAt, agree};
 
-use digits::{Digit, digit_value, hex_value};
+use digits::{digit_value, hex_value};
 
 // The largest number of the job text.
 pub const MOST_NUMBER: u32 = 65535;
 
-// A value and the place behind the byte that ends it; or the place of the first byte that cannot go on.
+// A value, and the place behind the bytes that were read.
 #[derive(Clone, Copy)]
-pub enum Field {
-    Value { value: u32, next: usize },
-    Wrong { at: usize },
-}
-
-// Digits, and the place behind them.
-#[derive(Clone, Copy)]
-pub(crate) struct Run {
+pub struct Run {
     pub value: u32,
     pub next: usize,
 }
@@ -39,9 +32,8 @@ fn number_run(text: &[u8], at: usize, end: usize) -> Run
         };
     }
     let mut value: u32 = 0;
-    let mut i = at;
-    while i < end {
-        let Digit::Value(d) = digit_value(text[i]) else {
+    for i in at..end {
+        let Some(d) = digit_value(text[i]) else {
             return Run { value, next: i };
         };
         let more = value * 10 + d;
@@ -49,67 +41,57 @@ fn number_run(text: &[u8], at: usize, end: usize) -> Run
             return Run { value, next: i };
         }
         value = more;
-        i += 1;
     }
-    Run { value, next: i }
+    Run { value, next: end }
 }
 
-// A number, ended by the byte `stop`.
-pub fn number_field(text: &[u8], at: usize, end: usize, stop: u8) -> Field
+// A number, ended by the byte `stop`, and the place behind that; or the place of the first byte that cannot go on.
+pub fn number_field(text: &[u8], at: usize, end: usize, stop: u8) -> Result<Run, usize>
     requires within { Within text.now at end }
     requires stop_value { digit stop ≡ none }
     ensures { FieldAt stop number text.now at end result }
 {
     let run = number_run(text, at, end);
-    let next = run.next;
-    if next == at {
-        return Field::Wrong { at: next };
+    if run.next == at || text[run.next] != stop {
+        return Err(run.next);
     }
-    if text[next] != stop {
-        return Field::Wrong { at: next };
-    }
-    Field::Value {
-        value: run.value,
-        next: next + 1,
-    }
+    Ok(Run {
+        next: run.next + 1,
+        ..run
+    })
 }
 
-// A set of marks, ended by the newline byte.
-pub fn marks_field(text: &[u8], at: usize, end: usize) -> Field
+// A set of marks, ended by the newline byte; the places as those of a number.
+pub fn marks_field(text: &[u8], at: usize, end: usize) -> Result<Run, usize>
     requires { Within text.now at end }
     ensures { FieldAt newline hex_word text.now at end result }
 {
     let last = at + 8;
     let mut value: u32 = 0;
-    let mut i = at;
-    while i < last {
-        let Digit::Value(d) = hex_value(text[i]) else {
-            return Field::Wrong { at: i };
-        };
+    for i in at..last {
+        let d = hex_value(text[i]).ok_or(i)?;
         value = value * 16 + d;
-        i += 1;
     }
-    if i < end {
-        return Field::Wrong { at: i };
+    if last < end {
+        return Err(last);
     }
-    Field::Value { value, next: i + 1 }
+    Ok(Run {
+        value,
+        next: last + 1,
+    })
 }
 
 // How far a word stands from `at` on: the place of the first byte that is another one, the line's end or the place behind the word.
+#[tactic(auto, using(crate::proofs::Words::word_steps))]
 pub fn word_run(text: &[u8], at: usize, end: usize, word: &[u8]) -> usize
     requires { Within text.now at end }
     ensures { result ≡ at + agree (part at end text.now) word.now }
 {
-    let mut i = 0;
-    while i < word.len() {
+    for (i, byte) in word.iter().enumerate() {
         let here = at + i;
-        if end <= here {
-            return end;
-        }
-        if text[here] != word[i] {
+        if end <= here || text[here] != *byte {
             return here;
         }
-        i += 1;
     }
-    at + i
+    at + word.len()
 }

@@ -5,53 +5,38 @@ ghost use Rattle.job_values.specs.Number.{spelt, at_most, most_number, leading_z
 ghost use Rattle.job_values.specs.Given.{number_given};
 
 use crate::field::MOST_NUMBER;
-use digits::{Digit, digit_value};
-
-// A number, or that the bytes are not of its form.
-#[derive(Clone, Copy)]
-pub enum Number {
-    Value(u32),
-    Wrong,
-}
+use digits::digit_value;
 
 // The number that decimal digits spell, if it is not too large.
-fn decimal(bytes: &[u8]) -> Number
+#[tactic(auto, using(std::proofs::lemmas::Bool::Decides::nat_tests, digits::proofs::Digits::digit_below, crate::proofs::Numbers::spelt_more, crate::proofs::Numbers::spelt_wrong, crate::proofs::Numbers::spelt_end, crate::proofs::Numbers::too_large))]
+fn decimal(bytes: &[u8]) -> Option<u32>
     ensures { number_given result ≡ at_most most_number (spelt digit 10 0 bytes.now) }
 {
     let mut value: u32 = 0;
-    let mut i = 0;
-    while i < bytes.len() {
-        let Digit::Value(d) = digit_value(bytes[i]) else {
-            return Number::Wrong;
-        };
-        value = value * 10 + d;
+    for byte in bytes {
+        value = value * 10 + digit_value(*byte)?;
         if MOST_NUMBER < value {
-            return Number::Wrong;
+            return None;
         }
-        i += 1;
     }
-    Number::Value(value)
+    Some(value)
 }
 
 // Whether there are several digits, the first of them 0.
+#[tactic(auto, using(std::proofs::lemmas::Bool::Decides::nat_tests))]
 fn leading_zero(bytes: &[u8]) -> bool
     ensures { result ≡ leading_zero bytes.now }
 {
-    if bytes.len() <= 1 {
-        return false;
-    }
-    bytes[0] == b'0'
+    1 < bytes.len() && bytes[0] == b'0'
 }
 
 // A number: decimal, no leading zeros, at most 65,535.
-pub fn read_number(bytes: &[u8]) -> Number
+#[tactic(auto, using(std::proofs::lemmas::Bool::Decides::nat_tests), unfolding(crate::specs::Number::number))]
+pub fn read_number(bytes: &[u8]) -> Option<u32>
     ensures { number_given result ≡ number bytes.now }
 {
-    if bytes.len() == 0 {
-        return Number::Wrong;
-    }
-    if leading_zero(bytes) {
-        return Number::Wrong;
+    if bytes.is_empty() || leading_zero(bytes) {
+        return None;
     }
     decimal(bytes)
 }

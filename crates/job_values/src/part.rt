@@ -3,32 +3,22 @@ ghost use Rattle.std.specs.Prelude.{◌≡◌};
 ghost use Rattle.job_values.specs.Bytes.{FirstAt, same};
 
 // The first place from `from` on at which the byte stands; the end where there is none.
+#[tactic(auto, using(crate::proofs::Cut::search_steps))]
 pub fn find(bytes: &[u8], from: usize, byte: u8) -> usize
     ensures { FirstAt bytes.now from byte result }
 {
-    let mut i = from;
-    while i < bytes.len() {
+    for i in from..bytes.len() {
         if bytes[i] == byte {
             return i;
         }
-        i += 1;
     }
-    i
+    from.max(bytes.len())
 }
 
 // Whether the two are the same bytes.
+#[tactic(auto, using(crate::proofs::Cut::same_pointwise))]
 pub fn alike(bytes: &[u8], word: &[u8]) -> bool
     ensures { result ≡ same bytes.now word.now }
 {
-    if bytes.len() != word.len() {
-        return false;
-    }
-    let mut i = 0;
-    while i < bytes.len() {
-        if bytes[i] != word[i] {
-            return false;
-        }
-        i += 1;
-    }
-    true
+    bytes == word
 }

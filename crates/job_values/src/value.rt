@@ -1,17 +1,17 @@
-// The values of the job text. `at` is where a value begins, `end` where its line's newline byte stands. Relies on `field` and `part`.
+// The values of the job text. `at` is where a value begins, `end` where its line's newline byte stands. Relies on `field`.
+// The `usize` of an `Err` is the place of the first byte that cannot go on.
 ghost use Rattle.std.specs.Prelude.{◌≡◌, ◌≤◌, ◌<◌};
 ghost use Rattle.table.specs.Refusal.{most_rabin};
 ghost use Rattle.job_values.specs.Bytes.{fields};
 ghost use Rattle.job_values.specs.Value.{usual_kind, listed, eight, has_needs, needs, most_count};
 ghost use Rattle.job_values.specs.inner.Field.{Within};
-ghost use Rattle.job_values.specs.inner.Told.{wrong_place, EdgeAt, WordAt, FormAt, EndAt, KindAt, Further, ListAt, no_needs};
+ghost use Rattle.job_values.specs.inner.Told.{EdgeAt, WordAt, FormAt, EndAt, KindAt, ListAt};
 
-use crate::field::{Field, marks_field, number_field, word_run};
-use crate::part::alike;
+use crate::field::{marks_field, number_field, word_run};
 
-const COMMA: u8 = 44;
+const COMMA: u8 = b',';
 
-const NEWLINE: u8 = 10;
+const NEWLINE: u8 = b'\n';
 
 // The form of a job text: it says which kind is meant where the kind line is left out.
 #[derive(Clone, Copy)]
@@ -28,149 +28,73 @@ pub enum Kind {
     Rabin,
 }
 
-// A form, or the place of the first byte that cannot go on.
+// What an edge line says.
 #[derive(Clone, Copy)]
-pub enum FormValue {
-    Form(Form),
-    Wrong { at: usize },
-}
-
-#[derive(Clone, Copy)]
-pub enum KindValue {
-    Kind(Kind),
-    Wrong { at: usize },
-}
-
-#[derive(Clone, Copy)]
-pub enum WordValue {
-    Right,
-    Wrong { at: usize },
-}
-
-#[derive(Clone, Copy)]
-pub enum EdgeValue {
-    Edge { from: u32, to: u32, marks: u32 },
-    Wrong { at: usize },
-}
-
-// Whether the value is of the form, and then the eight needs; else the place of the first byte that cannot go on.
-#[derive(Clone, Copy)]
-pub struct NeedList {
-    pub formed: bool,
-    pub wrong: usize,
-    pub needs: [u32; 8],
-}
-
-// Where a field is wrong; 0 where it is not.
-fn wrong_place(field: Field) -> usize
-    ensures { result ≡ wrong_place field }
-{
-    match field {
-        Field::Value { value: _, next: _ } => 0,
-        Field::Wrong { at } => at,
-    }
+pub struct Edge {
+    pub from: u32,
+    pub to: u32,
+    pub marks: u32,
 }
 
 // An edge: from, to and marks, with commas between.
-pub fn read_edge(text: &[u8], at: usize, end: usize) -> EdgeValue
+pub fn read_edge(text: &[u8], at: usize, end: usize) -> Result<Edge, usize>
     requires { Within text.now at end }
     ensures { EdgeAt text.now at end result }
 {
-    let first = number_field(text, at, end, COMMA);
-    let Field::Value {
-        value: from,
-        next: to_at,
-    } = first
-    else {
-        return EdgeValue::Wrong {
-            at: wrong_place(first),
-        };
-    };
-    let second = number_field(text, to_at, end, COMMA);
-    let Field::Value {
-        value: to,
-        next: marks_at,
-    } = second
-    else {
-        return EdgeValue::Wrong {
-            at: wrong_place(second),
-        };
-    };
-    let third = marks_field(text, marks_at, end);
-    let Field::Value {
-        value: marks,
-        next: _,
-    } = third
-    else {
-        return EdgeValue::Wrong {
-            at: wrong_place(third),
-        };
-    };
-    EdgeValue::Edge { from, to, marks }
+    let from = number_field(text, at, end, COMMA)?;
+    let to = number_field(text, from.next, end, COMMA)?;
+    let marks = marks_field(text, to.next, end)?;
+    Ok(Edge {
+        from: from.value,
+        to: to.value,
+        marks: marks.value,
+    })
 }
 
 // A value that must be one word.
-fn read_word(text: &[u8], at: usize, end: usize, word: &[u8]) -> WordValue
+#[tactic(auto, using(crate::proofs::Cut::same_pointwise))]
+fn read_word(text: &[u8], at: usize, end: usize, word: &[u8]) -> Result<(), usize>
     requires { Within text.now at end }
     ensures { WordAt text.now at end word.now result }
 {
-    if alike(&text[at..end], word) {
-        return WordValue::Right;
+    if &text[at..end] == word {
+        return Ok(());
     }
-    WordValue::Wrong {
-        at: word_run(text, at, end, word),
-    }
+    Err(word_run(text, at, end, word))
 }
 
 // The form's number; a text of form 1 has no line for it.
-pub fn read_form(text: &[u8], at: usize, end: usize) -> FormValue
+pub fn read_form(text: &[u8], at: usize, end: usize) -> Result<Form, usize>
     requires { Within text.now at end }
     ensures { FormAt text.now at end result }
 {
-    match read_word(text, at, end, b"2") {
-        WordValue::Right => FormValue::Form(Form::Two),
-        WordValue::Wrong { at } => FormValue::Wrong { at },
-    }
+    read_word(text, at, end, b"2")?;
+    Ok(Form::Two)
 }
 
 // The end's word.
-pub fn read_end(text: &[u8], at: usize, end: usize) -> WordValue
+pub fn read_end(text: &[u8], at: usize, end: usize) -> Result<(), usize>
     requires { Within text.now at end }
     ensures { EndAt text.now at end result }
 {
     read_word(text, at, end, b"job")
 }
 
-// The larger of two places.
-fn further(a: usize, b: usize) -> usize
-    ensures { Further a b result }
-{
-    if a < b {
-        return b;
-    }
-    a
-}
-
-// The kind's word.
-pub fn read_kind(text: &[u8], at: usize, end: usize) -> KindValue
+// The kind's word; where it is none of the three, the word that it agrees with furthest tells the place.
+pub fn read_kind(text: &[u8], at: usize, end: usize) -> Result<Kind, usize>
     requires { Within text.now at end }
     ensures { KindAt text.now at end result }
 {
-    let first = read_word(text, at, end, b"buchi");
-    let WordValue::Wrong { at: no_buchi } = first else {
-        return KindValue::Kind(Kind::Buchi);
+    let Err(no_buchi) = read_word(text, at, end, b"buchi") else {
+        return Ok(Kind::Buchi);
     };
-    let second = read_word(text, at, end, b"streett");
-    let WordValue::Wrong { at: no_streett } = second else {
-        return KindValue::Kind(Kind::Streett);
+    let Err(no_streett) = read_word(text, at, end, b"streett") else {
+        return Ok(Kind::Streett);
     };
-    let third = read_word(text, at, end, b"rabin");
-    let WordValue::Wrong { at: no_rabin } = third else {
-        return KindValue::Kind(Kind::Rabin);
+    let Err(no_rabin) = read_word(text, at, end, b"rabin") else {
+        return Ok(Kind::Rabin);
     };
-    KindValue::Wrong {
-        at: further(no_buchi, further(no_streett, no_rabin)),
-    }
+    Err(no_buchi.max(no_streett).max(no_rabin))
 }
 
 // What a missing kind line means.
@@ -183,19 +107,8 @@ pub fn usual_kind(form: Form) -> Kind
     }
 }
 
-// Needs that are not of the form.
-fn no_needs(wrong: usize) -> NeedList
-    ensures { result ≡ no_needs wrong }
-{
-    NeedList {
-        formed: false,
-        wrong,
-        needs: [0; 8],
-    }
-}
-
-// Exactly `count` numbers with commas between.
-fn list_needs(text: &[u8], at: usize, end: usize, count: u32) -> NeedList
+// Exactly `count` numbers with commas between, and zeros after them.
+fn list_needs(text: &[u8], at: usize, end: usize, count: u32) -> Result<[u32; 8], usize>
     requires within { Within text.now at end }
     requires count_nonzero { (0 < count) × (count ≤ most_rabin) }
     ensures { ListAt (λ bs. eight (listed count (fields bs))) text.now at end result }
@@ -203,49 +116,32 @@ fn list_needs(text: &[u8], at: usize, end: usize, count: u32) -> NeedList
     let last = (count - 1) as usize;
     let mut needs = [0u32; 8];
     let mut next = at;
-    let mut i: usize = 0;
-    while i < last {
-        let field = number_field(text, next, end, COMMA);
-        let Field::Value {
-            value: need,
-            next: after,
-        } = field
-        else {
-            return no_needs(wrong_place(field));
-        };
-        needs[i] = need;
-        next = after;
-        i += 1;
+    for i in 0..last {
+        let need = number_field(text, next, end, COMMA)?;
+        needs[i] = need.value;
+        next = need.next;
     }
-    let field = number_field(text, next, end, NEWLINE);
-    let Field::Value {
-        value: need,
-        next: _,
-    } = field
-    else {
-        return no_needs(wrong_place(field));
-    };
-    needs[last] = need;
-    NeedList {
-        formed: true,
-        wrong: 0,
-        needs,
-    }
+    let need = number_field(text, next, end, NEWLINE)?;
+    needs[last] = need.value;
+    Ok(needs)
 }
 
 // Whether a need line of this kind and count holds numbers.
+#[tactic(auto, using(std::proofs::lemmas::Bool::Decides::nat_tests))]
 fn has_needs(kind: Kind, count: u32) -> bool
     ensures { result ≡ has_needs kind count }
 {
-    match kind {
-        Kind::Buchi => false,
-        Kind::Streett => false,
-        Kind::Rabin => 0 < count,
-    }
+    matches!(kind, Kind::Rabin) && 0 < count
 }
 
 // The needs: `-`, or for rabin with a count above 0 that many numbers.
-pub fn read_needs(text: &[u8], at: usize, end: usize, kind: Kind, count: u32) -> NeedList
+pub fn read_needs(
+    text: &[u8],
+    at: usize,
+    end: usize,
+    kind: Kind,
+    count: u32,
+) -> Result<[u32; 8], usize>
     requires within { Within text.now at end }
     requires count_bound { count ≤ most_count kind }
     ensures { ListAt (needs kind count) text.now at end result }
@@ -253,12 +149,6 @@ pub fn read_needs(text: &[u8], at: usize, end: usize, kind: Kind, count: u32) ->
     if has_needs(kind, count) {
         return list_needs(text, at, end, count);
     }
-    match read_word(text, at, end, b"-") {
-        WordValue::Right => NeedList {
-            formed: true,
-            wrong: 0,
-            needs: [0; 8],
-        },
-        WordValue::Wrong { at } => no_needs(at),
-    }
+    read_word(text, at, end, b"-")?;
+    Ok([0; 8])
 }

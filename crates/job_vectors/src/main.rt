@@ -5,8 +5,8 @@
 use job_text::reader::read;
 use std::io;
 use std::io::Read;
-use table::{Acceptance, Finding};
-use text_input::{Input, read_input};
+use table::Acceptance;
+use text_input::read_input;
 
 // The longest text that is stored.
 const MOST_STORED: usize = 24576;
@@ -32,14 +32,11 @@ fn with_cell(h: u32, cell: u32) -> u32 {
     h.wrapping_mul(31).wrapping_add(cell)
 }
 
-// A sum over the cells of all edges, so that a line tells whether each was read right.
-fn checksum(from: [u32; 512], to: [u32; 512], marks: [u32; 512], m: usize) -> u32 {
+// A sum over the cells of the first m edges, so that a line tells whether each was read right.
+fn checksum(from: &[u32], to: &[u32], marks: &[u32], m: usize) -> u32 {
     let mut h: u32 = 0;
-    for e in 0..512 {
-        if m <= e {
-            return h;
-        }
-        h = with_cell(with_cell(with_cell(h, from[e]), to[e]), marks[e]);
+    for ((from, to), marks) in from.iter().zip(to).zip(marks).take(m) {
+        h = with_cell(with_cell(with_cell(h, *from), *to), *marks);
     }
     h
 }
@@ -50,40 +47,30 @@ fn print_reading(rt: &impl Print, text: &[u8]) -> io::Result<()> {
     let mut to = [0u32; 512];
     let mut marks = [0u32; 512];
     let job = read(text, &mut from, &mut to, &mut marks);
-    if let Finding::Refused { number, place } = job.finding {
-        return println!(rt; "refused {number} {place} {}", job.column);
+    if let Err(cause) = job.finding {
+        return println!(rt; "refused {} {} {}", cause.number, cause.place, job.column);
     }
     print!(rt; "job {} {}", job.states, job.start)?;
     print_condition(rt, job.condition)?;
     print_needs(rt, job.needs)?;
     let edges = job.edges;
-    println!(rt; " {edges} {}", checksum(from, to, marks, edges as usize))
+    println!(rt; " {edges} {}", checksum(&from, &to, &marks, edges as usize))
 }
 
-fn wide(byte: u8) -> usize {
-    byte as usize
-}
-
-// The next text's length, or the end of the input.
-#[derive(Clone, Copy)]
-enum Next {
-    Length(usize),
-    End,
-}
-
-fn next_length<R: Read>(input: &mut R) -> io::Result<Next> {
+// The next text's length; none at the end of the input.
+fn next_length<R: Read>(input: &mut R) -> io::Result<Option<usize>> {
     let mut byte = [0u8; 1];
     let mut length: usize = 0;
     for _ in 0..7 {
         if input.read(&mut byte)? == 0 {
-            return Ok(Next::End);
+            return Ok(None);
         }
         if byte[0] == b'\n' {
-            return Ok(Next::Length(length));
+            return Ok(Some(length));
         }
-        length = (length * 10 + wide(byte[0]) % 16) % 10000000;
+        length = (length * 10 + usize::from(byte[0]) % 16) % 10000000;
     }
-    Ok(Next::End)
+    Ok(None)
 }
 
 // The next bytes of the input, as many as `length` says, at the front of the buffer; how many there were.
@@ -91,10 +78,7 @@ fn fill<R: Read>(input: &mut R, text: &mut [u8], length: usize) -> io::Result<us
     if text.len() < length {
         return Ok(0);
     }
-    match read_input(input, &mut text[0..length]) {
-        Input::Bytes { count } => Ok(count),
-        Input::Failed { reason } => Err(reason),
-    }
+    read_input(input, &mut text[0..length])
 }
 
 // One text.
@@ -112,10 +96,10 @@ fn one_text(rt: &HostRuntime, length: usize) -> io::Result<()> {
 
 fn main(rt: HostRuntime) -> io::Result<()> {
     for _ in 0..100000 {
-        let Next::Length(length) = next_length(&mut rt.stdin())? else {
-            return Ok(());
-        };
-        one_text(&rt, length)?;
+        match next_length(&mut rt.stdin())? {
+            Some(length) => one_text(&rt, length)?,
+            None => return Ok(()),
+        }
     }
     Ok(())
 }

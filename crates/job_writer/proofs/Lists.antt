@@ -1,4 +1,5 @@
 -- The lists of a table that is not refused, and the writer's limits. Assumes nothing.
+use Rattle.std.specs.Prelude.{Ok}
 use mathlib.Core.Path.{◌≡◌, ap, ◌∙◌}
 use mathlib.Core.Bool.{Bool, false, ◌||◌}
 use mathlib.Core.List.{List, []}
@@ -8,7 +9,6 @@ use lib.ListN.{length}
 use borrow.Author.Tests.{le-ltb, ltb-false}
 use Rattle.marks.proofs.Cases.{either_false}
 use Rattle.table.specs.declared.Acceptance.TheVariants.{Buchi}
-use Rattle.table.specs.declared.Finding.TheVariants.{Sound}
 use Rattle.table.specs.Table.{Table, lent}
 use Rattle.table.specs.Refusal.{refusal}
 use Rattle.table.proofs.Sound.{sound_fit}
@@ -17,7 +17,7 @@ use Rattle.job_writer.specs.Writing.{too_large}
 use Rattle.job_put_edges.specs.inner.{Passed}
 
 -- they are as the writer asks
-pub lists_passed : (n start : ℕ) (from to marks : List ℕ) → refusal (lent n start from to marks) (Buchi 1) [] ≡ Sound → length from ≤ most_job_edges → Passed from to marks
+pub lists_passed : (n start : ℕ) (from to marks : List ℕ) → refusal (lent n start from to marks) (Buchi 1) [] ≡ Ok tt → length from ≤ most_job_edges → Passed from to marks
 lists_passed n start from to marks sound l =
     let fit = (sound_fit n start from to marks (Buchi 1) [] sound).proper in
     record { to_length = fit.to_length; marks_length = fit.marks_length; few = l }

@@ -1,4 +1,5 @@
 -- Reading a text that was written gives the table back (`reads_back`): line by line, each says what it was written for. Assumes nothing.
+use Rattle.std.specs.Prelude.{Ok}
 use mathlib.Core.Path.{◌≡◌, refl, sym, ap, ◌∙◌}
 use mathlib.Core.Bool.{Bool, true, false}
 use mathlib.Core.List.{List, [], ◌∷◌, ◌++◌, append_assoc, map}
@@ -22,10 +23,8 @@ use Rattle.job_text.specs.Job.{most_bytes, Job, job_lines, read_job, found, abov
 use Rattle.job_text.specs.Job.{form_line, kind_line, Head, count_lines, head_lines, edge_lines, end_lines, body_lines}
 use Rattle.job_put_edges.specs.Edges.{hex_text, shown, edge_text, edges_text}
 use Rattle.job_writer.specs.Written.{head_text, job_text}
-use Rattle.table.specs.declared.Finding.TheVariants.{Sound}
 use Rattle.table.specs.Refusal.{refusal}
 use Rattle.table.proofs.Sound.{sound_fit}
-use Rattle.writing.specs.declared.Written.TheVariants as written
 use Rattle.writing.proofs.Writings.{nothing_refused, text_given}
 use Rattle.job_writer.specs.Back.{ReadsBack}
 use Rattle.job_writer.specs.Writing.{too_large, write_refusal, Writes}
@@ -247,7 +246,7 @@ module _ (n start : ℕ) (from to marks : List ℕ) (to_length : length to ≡ l
 
 module _ (n start : ℕ) (from to marks : List ℕ) where
   -- the text of a table that is not refused reads back
-  pub reads_back : (room : ℕ) → write_refusal (lent n start from to marks) room ≡ Sound → ReadsBack (lent n start from to marks) (job_text (lent n start from to marks))
+  pub reads_back : (room : ℕ) → write_refusal (lent n start from to marks) room ≡ Ok tt → ReadsBack (lent n start from to marks) (job_text (lent n start from to marks))
   reads_back room e =
       let t = lent n start from to marks in
       let sound = nothing_refused (refusal t (Buchi 1) []) (too_large t) 23 (job_text t) room e in
@@ -263,5 +262,5 @@ module _ (n start : ℕ) (from to marks : List ℕ) where
       (omega (arith, most_bytes_lem n start from to marks fit within.0 within.1))
 
   -- so do the bytes that stand in the output where a text is given
-  pub written_back : {out out' : List ℕ} {size : ℕ} → Writes (lent n start from to marks) out out' (written.Text size) → ReadsBack (lent n start from to marks) (take size out')
+  pub written_back : {out out' : List ℕ} {size : ℕ} → Writes (lent n start from to marks) out out' (Ok size) → ReadsBack (lent n start from to marks) (take size out')
   written_back {out} W = let given = text_given W in rw given.1 (reads_back (length out) given.0)

@@ -1,4 +1,5 @@
 -- How long a text is at most: 11,336 bytes (docs/RULES.md, "The job text and the printed answer", the writer). Assumes nothing.
+use Rattle.std.specs.Prelude.{Ok}
 use mathlib.Core.Path.{◌≡◌, sym, ap, ◌∙◌}
 use mathlib.Core.Bool.{Bool, true, false, cond}
 use mathlib.Core.List.{List, [], ◌∷◌, ◌++◌}
@@ -6,9 +7,8 @@ use Prim.Native.Nat.{ℕ, zero, suc, ◌*◌, ◌≤◌, ◌<◌}
 use native.Mathlib.Omega.{arith}
 use lib.ListN.{length, get_or, length-append}
 use Rattle.table.specs.declared.Acceptance.TheVariants.{Buchi}
-use Rattle.table.specs.declared.Finding.TheVariants.{Sound, Refused}
 use Rattle.table.specs.Table.{lent}
-use Rattle.table.specs.Refusal.{refusal}
+use Rattle.table.specs.Refusal.{refusal, refused}
 use Rattle.table.proofs.Sound.{Fit, sound_fit}
 use Rattle.puts.specs.Put.{decimal}
 use Rattle.job_values.proofs.Cut.{shown_length}
@@ -100,21 +100,21 @@ most_bytes_lem n start from to marks fit l h =
     )
 
 -- so no table that is written is refused for want of room where the output has so many bytes
-pub room_enough : (n start : ℕ) (from to marks : List ℕ) → refusal (lent n start from to marks) (Buchi 1) [] ≡ Sound → n ≤ most_job_states → length from ≤ most_job_edges
-    → (room : ℕ) → most_bytes ≤ room → write_refusal (lent n start from to marks) room ≡ Sound
+pub room_enough : (n start : ℕ) (from to marks : List ℕ) → refusal (lent n start from to marks) (Buchi 1) [] ≡ Ok tt → n ≤ most_job_states → length from ≤ most_job_edges
+    → (room : ℕ) → most_bytes ≤ room → write_refusal (lent n start from to marks) room ≡ Ok tt
 room_enough n start from to marks sound l h room enough =
     let t = lent n start from to marks in
     let long = most_bytes_lem n start from to marks (sound_fit n start from to marks (Buchi 1) [] sound) l h in
     writings.room_enough (refusal t (Buchi 1) []) (too_large t) 23 (job_text t) room sound (not_large t l h) (omega arith)
 
 -- behind rows 1 to 7, only the limits refuse such an output
-pub by_size : (n start : ℕ) (from to marks : List ℕ) → refusal (lent n start from to marks) (Buchi 1) [] ≡ Sound
-    → write_refusal (lent n start from to marks) most_bytes ≡ cond (too_large (lent n start from to marks)) (Refused 23 0) Sound
+pub by_size : (n start : ℕ) (from to marks : List ℕ) → refusal (lent n start from to marks) (Buchi 1) [] ≡ Ok tt
+    → write_refusal (lent n start from to marks) most_bytes ≡ cond (too_large (lent n start from to marks)) (refused 23 0) (Ok tt)
 by_size n start from to marks sound =
     let t = lent n start from to marks in
     by_test (too_large t)
     (λ (e : too_large t ≡ true).
-    writings.too_large (refusal t (Buchi 1) []) (too_large t) 23 (job_text t) most_bytes sound e ∙ sym (ap (λ (b : Bool). cond b (Refused 23 0) Sound) e))
+    writings.too_large (refusal t (Buchi 1) []) (too_large t) 23 (job_text t) most_bytes sound e ∙ sym (ap (λ (b : Bool). cond b (refused 23 0) (Ok tt)) e))
     (λ (e : too_large t ≡ false).
     let small = limits t e in
-    room_enough n start from to marks sound small.0 small.1 most_bytes (omega arith) ∙ sym (ap (λ (b : Bool). cond b (Refused 23 0) Sound) e))
+    room_enough n start from to marks sound small.0 small.1 most_bytes (omega arith) ∙ sym (ap (λ (b : Bool). cond b (refused 23 0) (Ok tt)) e))

@@ -3,9 +3,9 @@
 // specs/Written.antt, what the writer gives for every input in specs/Writing.antt; reading the text gives the table back: specs/Back.antt.
 #![tactic(auto)]
 
-ghost use Rattle.std.specs.Prelude.{◌≡◌, []};
+ghost use Rattle.std.specs.Prelude.{◌≡◌, [], Ok};
 ghost use Rattle.table.specs.Table.{lent};
-ghost use Rattle.table.specs.Refusal.{refusal};
+ghost use Rattle.table.specs.Refusal.{refused, refusal};
 ghost use Rattle.puts.specs.Put.{Put, PutFew};
 ghost use Rattle.job_writer.specs.Written.{head_text, job_text};
 ghost use Rattle.job_writer.specs.Writing.{large, Writes};
@@ -13,8 +13,7 @@ ghost use Rattle.job_put_edges.specs.inner.{Passed};
 
 use job_put_edges::put_edges;
 use puts::{clear, put_held, put_word};
-use table::{Acceptance, Finding};
-use writing::Written;
+use table::{Acceptance, Refusal};
 
 // The largest tables that are written: the job text's limits.
 const MOST_STATES: u32 = 256;
@@ -38,8 +37,7 @@ fn put_text(out: &mut [u8], n: u32, start: u32, from: &[u32], to: &[u32], marks:
     requires { Passed from.now to.now marks.now }
     ensures { Put out.old out.new 0 (job_text (lent n start from.now to.now marks.now)) result }
 {
-    let m = from.len() as u32;
-    let begin = put_head(out, n, start, m);
+    let begin = put_head(out, n, start, from.len() as u32);
     let end = put_edges(out, begin, from, to, marks);
     put_word(out, end, b"end=job\n")
 }
@@ -48,17 +46,14 @@ fn put_text(out: &mut [u8], n: u32, start: u32, from: &[u32], to: &[u32], marks:
 fn too_large(n: u32, m: usize) -> bool
     ensures { result ≡ large n m }
 {
-    if MOST_STATES < n {
-        return true;
-    }
-    MOST_EDGES < m
+    MOST_STATES < n || MOST_EDGES < m
 }
 
 // A refusal that is no edge's.
-fn refused(number: u32) -> Written
-    ensures { result ≡ Written.Refused number 0 }
+fn refused(number: u32) -> Result<usize, Refusal>
+    ensures { result ≡ refused number 0 }
 {
-    Written::Refused { number, place: 0 }
+    Err(Refusal { number, place: 0 })
 }
 
 // The text of a table that rows 1 to 7 pass, and zeros behind it, if the table is not too large and the output long enough.
@@ -69,20 +64,20 @@ fn write_sound(
     to: &[u32],
     marks: &[u32],
     out: &mut [u8],
-) -> Written
-    requires { refusal (lent n start from.now to.now marks.now) (Acceptance.Buchi 1) [] ≡ Finding.Sound }
+) -> Result<usize, Refusal>
+    requires { refusal (lent n start from.now to.now marks.now) (Acceptance.Buchi 1) [] ≡ Ok tt }
     ensures { Writes (lent n start from.now to.now marks.now) out.old out.new result }
 {
     if too_large(n, from.len()) {
         return refused(23);
     }
-    let length = put_text(&mut out[0..0], n, start, from, to, marks);
+    let length = put_text(&mut out[..0], n, start, from, to, marks);
     if out.len() < length {
         return refused(11);
     }
     put_text(out, n, start, from, to, marks);
     clear(out, length);
-    Written::Text { length }
+    Ok(length)
 }
 
 // The job text of a table read as Büchi 1, and zeros behind it; or the first cause to refuse, and the output as it was.
@@ -93,12 +88,9 @@ pub fn write_job(
     to: &[u32],
     marks: &[u32],
     out: &mut [u8],
-) -> Written
+) -> Result<usize, Refusal>
     ensures { Writes (lent n start from.now to.now marks.now) out.old out.new result }
 {
-    let finding = table::check(n, start, from, to, marks, Acceptance::Buchi(1), [0; 8]);
-    match finding {
-        Finding::Refused { number, place } => Written::Refused { number, place },
-        Finding::Sound => write_sound(n, start, from, to, marks, out),
-    }
+    table::check(n, start, from, to, marks, Acceptance::Buchi(1), [0; 8])?;
+    write_sound(n, start, from, to, marks, out)
 }

@@ -3,52 +3,41 @@
 // fails is told on standard error, and the program ends with a status that is not 0; a text that could not be read gets no answer.
 #![tactic(auto)]
 
-ghost use Rattle.std.specs.Prelude.{◌≡◌, length};
+ghost use Rattle.std.specs.Prelude.{◌≡◌};
 ghost use Rattle.judge_text.specs.HoaReplied.{HoaReplied};
-ghost use Rattle.text_input.specs.Served.{Served, Wrote};
+ghost use Rattle.text_input.specs.Served.{Served};
 
 use judge_text::{MOST_PRINTED, judge_hoa};
 use std::io::{Read, Write};
 use std::process::ExitCode;
-use text_input::{Input, fail, read_input};
+use text_input::Program;
 
 // One byte more than a text may have: with so many it is refused whatever follows, and nothing more is read.
 const MOST_READ: usize = 1048577;
 
-// Judges a text and writes the answer.
-fn answer<W: Write>(rt: &impl Eprint, output: &mut W, text: &[u8]) -> ExitCode
-    ensures { result ≡ ExitCode.SUCCESS → Wrote (HoaReplied text.now) (W.contents output.old) (W.contents output.new) }
-{
-    let mut out = [0u8; MOST_PRINTED];
-    let size = judge_hoa(text, &mut out);
-    match output.write_all(&out[0..size]) {
-        Ok(()) => ExitCode::SUCCESS,
-        Err(reason) => fail(rt, "judge_hoa: the answer could not be written", reason),
+// A text of the Hanoi format, judged.
+struct JudgeHoa;
+
+impl Program<MOST_PRINTED> for JudgeHoa {
+    ghost Reply = { HoaReplied };
+
+    const UNREAD: &'static str = "judge_hoa: the text could not be read";
+
+    const UNWRITTEN: &'static str = "judge_hoa: the answer could not be written";
+
+    fn reply(text: &[u8], out: &mut [u8; MOST_PRINTED]) -> usize {
+        judge_hoa(text, out)
     }
 }
 
-// Reads the input into the text and answers what was read.
-fn serve<R: Read, W: Write>(
-    rt: &impl Eprint,
-    input: &mut R,
-    output: &mut W,
-    text: &mut [u8],
-) -> ExitCode
-    ensures { result ≡ ExitCode.SUCCESS → Served (length text.old) HoaReplied (R.remaining input.old) (R.remaining input.new)
+// Reads the input and answers what was read.
+fn serve<R: Read, W: Write>(rt: &impl Eprint, input: &mut R, output: &mut W) -> ExitCode
+    ensures { result ≡ ExitCode.SUCCESS → Served MOST_READ HoaReplied (R.remaining input.old) (R.remaining input.new)
         (W.contents output.old) (W.contents output.new) }
 {
-    match read_input(input, text) {
-        Input::Bytes { count } => answer(rt, output, &text[0..count]),
-        Input::Failed { reason } => fail(rt, "judge_hoa: the text could not be read", reason),
-    }
-}
-
-// The whole array as a slice: the prover does not look into so many cells where they come as an array.
-fn lend(rt: &HostRuntime, text: &mut [u8; MOST_READ]) -> ExitCode {
-    serve(rt, &mut rt.stdin(), &mut rt.stdout(), text)
+    text_input::serve::<JudgeHoa, MOST_READ, MOST_PRINTED, _, R, W>(rt, input, output)
 }
 
 fn main(rt: HostRuntime) -> ExitCode {
-    let mut text = [0u8; MOST_READ];
-    lend(&rt, &mut text)
+    serve(&rt, &mut rt.stdin(), &mut rt.stdout())
 }

@@ -1,5 +1,7 @@
 -- Every printed answer fits the buffer: the room's cells are edge numbers below 512, waiting edges or zeros, and the other numbers are small.
 -- Assumes nothing.
+use Rattle.table.specs.declared.Refusal.{Refusal}
+use Rattle.std.specs.Prelude.{Result, Ok, Err}
 use mathlib.Core.Path.{◌≡◌, refl, ap}
 use mathlib.Core.Bool.{false}
 use mathlib.Core.Logic.{inl, inr}
@@ -9,8 +11,6 @@ use native.Mathlib.Omega.{arith}
 use lib.ListN.{length, replicate, length-replicate}
 use Rattle.table.specs.declared.Acceptance.{Acceptance}
 use Rattle.table.specs.declared.Acceptance.TheVariants.{Buchi, Streett, Rabin}
-use Rattle.table.specs.declared.Finding.{Finding}
-use Rattle.table.specs.declared.Finding.TheVariants.{Sound, Refused}
 use Rattle.table.specs.declared.Verdict.{Verdict}
 use Rattle.table.specs.declared.Verdict.TheVariants.{Run, Empty, Refused as RefusedVerdict}
 use Rattle.table.specs.Table.{Table, lent, Step, Walk}
@@ -104,14 +104,14 @@ module _ (n start : ℕ) (from to marks : List ℕ) (c : Acceptance) (needs : Li
   long : length room ≤ lent_room
   long = omega (arith, ap length is-room, length-replicate {A = ℕ} lent_room 0)
 
-  cause_slight : (f : Finding) (v : Verdict) → refusal (lent n start from to marks) c needs ≡ f
+  cause_slight : (f : Result Unit Refusal) (v : Verdict) → refusal (lent n start from to marks) c needs ≡ f
       → ByCause f (lent n start from to marks) c needs room room' scratch scratch' v → Slight v room'
-  cause_slight Sound v e G =
+  cause_slight (Ok done) v e G =
       given_slight (lent n start from to marks) c needs few long v (permitted n start from to marks c needs e) G
-  cause_slight (Refused number place) v e K =
-      let row = refused_row (lent n start from to marks) c needs number place e in
-      let place-few : place < 2 ^ 32 = below number 5 (λ l. omega (arith, row.whole (omega arith))) (λ l. omega (arith, row.edge l, few)) in
-      rw (K.says, K.room_kept) (slight_refused number place room (omega (arith, row.most)) place-few long (rw is-room (brief_zeros lent_room)))
+  cause_slight (Err cause) v e K =
+      let row = refused_row (lent n start from to marks) c needs cause.number cause.place e in
+      let place-few : cause.place < 2 ^ 32 = below cause.number 5 (λ l. omega (arith, row.whole (omega arith))) (λ l. omega (arith, row.edge l, few)) in
+      rw (K.says, K.room_kept) (slight_refused cause.number cause.place room (omega (arith, row.most)) place-few long (rw is-room (brief_zeros lent_room)))
 
   pub answer_fits : (v : Verdict) (depth : ℕ) → depth < 2 ^ 32 → ByCause (refusal (lent n start from to marks) c needs) (lent n start from to marks) c needs room room' scratch scratch' v
       → length (answer_text v 0 depth c room') ≤ most_printed

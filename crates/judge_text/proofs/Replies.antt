@@ -1,4 +1,6 @@
 -- Every text gets an answer or one numbered refusal, that of the first cause. Assumes nothing.
+use Rattle.table.specs.declared.Refusal.{Refusal}
+use Rattle.std.specs.Prelude.{Result, Ok, Err}
 use mathlib.Core.Path.{◌≡◌, refl, ap, ◌∙◌, subst}
 use mathlib.Core.Bool.{Bool, true, false, cond}
 use mathlib.Core.List.{List}
@@ -7,8 +9,6 @@ use Prim.Native.Nat.{ℕ, ◌-◌, ◌≤◌, ◌<◌}
 use native.Mathlib.Omega.{arith}
 use lib.Dec.{ltb}
 use lib.ListN.{length, replicate, length-append}
-use Rattle.table.specs.declared.Finding.{Finding}
-use Rattle.table.specs.declared.Finding.TheVariants.{Sound, Refused}
 use Rattle.table.specs.declared.Verdict.{Verdict}
 use Rattle.table.specs.declared.Verdict.TheVariants.{Refused as RefusedVerdict}
 use Rattle.table.proofs.Door.{refused_row}
@@ -47,22 +47,22 @@ refused_same number place j room = refl
 
 module _ (text printed : List ℕ) where
   -- what is read
-  by_cause : (j : Job) → read_job text ≡ job j → (f : Finding) → first_cause (job j) ≡ f → (J : JobReply j printed)
+  by_cause : (j : Job) → read_job text ≡ job j → (f : Result Unit Refusal) → first_cause (job j) ≡ f → (J : JobReply j printed)
       → By j J.room J.scratch J.answer.verdict f
       → Answered text printed ⊎ RefusedFor text printed
-  by_cause j o Sound e J B =
+  by_cause j o (Ok done) e J B =
       inl (record { asked = j; read = o; sound = e; verdict = J.answer.verdict; depth = J.answer.depth; room = J.room; decided = B.decided; deep = J.allowed.deep; is = J.is })
-  by_cause j o (Refused number place) e J B =
-      let row = refused_row (job_table j) j.condition j.needs number place e in
+  by_cause j o (Err cause) e J B =
+      let row = refused_row (job_table j) j.condition j.needs cause.number cause.place e in
       let level : J.answer.depth ≡ 0 = subst (λ (v : Verdict). Deep (job_table j) j.condition v J.answer.depth) B.says J.allowed.deep in
       inr (record {
-        number = number;
-        place = place;
+        number = cause.number;
+        place = cause.place;
         column = 0;
         cause = ap first_cause o ∙ e;
         row = inl (row.some, row.most);
         first = job_column text j o;
-        is = J.is ∙ rw (B.says, level) (refused_same number place j J.room);
+        is = J.is ∙ rw (B.says, level) (refused_same cause.number cause.place j J.room);
       })
 
   by_outcome : (o : Outcome) → read_job text ≡ o → Bounded o → ReplyTo (Column text) o printed → Answered text printed ⊎ RefusedFor text printed

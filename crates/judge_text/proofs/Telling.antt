@@ -1,5 +1,8 @@
 -- From what the reader, the judge and the printer give to the whole promise. A text is read as its outcome says; so each lemma goes by the outcome,
 -- and the reading names the case. Assumes nothing.
+use Rattle.table.specs.Refusal.{refused}
+use Rattle.table.specs.declared.Refusal.{Refusal}
+use Rattle.std.specs.Prelude.{Result, Ok}
 use mathlib.Core.Path.{◌≡◌, refl, sym, ap, ◌∙◌, subst}
 use mathlib.Core.List.{List, map}
 use Prim.Native.Nat.{ℕ, ◌-◌, ◌^◌, ◌≤◌, ◌<◌}
@@ -7,11 +10,7 @@ use native.Mathlib.Omega.{arith}
 use lib.ListN.{length, take, drop, replicate, length-map, length-take}
 use Rattle.table.specs.declared.Acceptance.{Acceptance}
 use Rattle.table.specs.declared.Answer.{Answer}
-use Rattle.table.specs.declared.Finding.{Finding}
-use Rattle.table.specs.declared.Finding.TheVariants.{Sound, Refused}
 use Rattle.table.specs.Table.{lent}
-use Rattle.answer_text.specs.declared.Printed.{Printed}
-use Rattle.answer_text.specs.declared.Printed.TheVariants as printed
 use Rattle.job_text.specs.declared.reader.Reading.{Reading}
 use Rattle.job_text.specs.Value.{Edge, pad_to}
 use Rattle.job_text.specs.Job.{most_job_states, most_job_edges, Job, Outcome, job, fault, read_job, Column}
@@ -29,7 +28,7 @@ use Rattle.judge_text.proofs.Fits.{answer_fits}
 
 -- ---- what the reader refuses
 
-refused_by : (text : List ℕ) (o : Outcome) (r : Reading) (number place : ℕ) → r ≡ reading_of o r.column → Column text r.column → r.finding ≡ Refused number place
+refused_by : (text : List ℕ) (o : Outcome) (r : Reading) (number place : ℕ) → r ≡ reading_of o r.column → Column text r.column → r.finding ≡ refused number place
     → ReplyTo (Column text) o (refused_text number place r.column)
 refused_by text (job j) r number place e k f = absurd (unlike (sym f ∙ ap (λ (x : Reading). x.finding) e))
 refused_by text (fault x p) r number place e k f =
@@ -38,7 +37,7 @@ refused_by text (fault x p) r number place e k f =
 -- ---- for any text that is read
 
 module _ {text b b' b'' from to marks : List ℕ} {r : Reading} (R : Read text b b' b'' from to marks r) where
-  pub refused_so : {number place : ℕ} → r.finding ≡ Refused number place → ReplyTo (Column text) (read_job text) (refused_text number place r.column)
+  pub refused_so : {number place : ℕ} → r.finding ≡ refused number place → ReplyTo (Column text) (read_job text) (refused_text number place r.column)
   refused_so {number} {place} f = refused_by text (read_job text) r number place R.reading R.column f
 
 -- ---- what the judge answers
@@ -48,7 +47,7 @@ pub judged_fits : (n start : ℕ) (from to marks : List ℕ) (c : Acceptance) (n
     → Answers (lent n start from to marks) c needs (replicate lent_room 0) room (replicate lent_scratch 0) scratch a → length (answer_text a.verdict 0 a.depth c room) ≤ most_printed
 judged_fits n start from to marks c needs room scratch a d few_states few_edges A =
     answer_fits n start from to marks c needs few_edges (replicate lent_room 0) room (replicate lent_scratch 0) scratch refl a.verdict a.depth d
-    (subst (λ (f : Finding). ByCause f (lent n start from to marks) c needs (replicate lent_room 0) room (replicate lent_scratch 0) scratch a.verdict)
+    (subst (λ (f : Result Unit Refusal). ByCause f (lent n start from to marks) c needs (replicate lent_room 0) room (replicate lent_scratch 0) scratch a.verdict)
     (enough n start from to marks c needs few_states few_edges) A.says)
 
 -- a job that was judged has its reply
@@ -86,7 +85,7 @@ module _ (r : Reading) (from to marks out : List ℕ) (size : ℕ) where
         rw (part_is (λ (e : Edge). e.from) j.edges, part_is (λ (e : Edge). e.to) j.edges, part_is (λ (e : Edge). e.marks) j.edges) at
         (rw (e, f, g, h) at G)
 
-  judged_by : (IsColumn : ℕ → Type 0) (o : Outcome) (b b' b'' : List ℕ) (column : ℕ) → Bounded o → r ≡ reading_of o column → r.finding ≡ Sound → from ≡ cells_of (λ e. e.from) o b
+  judged_by : (IsColumn : ℕ → Type 0) (o : Outcome) (b b' b'' : List ℕ) (column : ℕ) → Bounded o → r ≡ reading_of o column → r.finding ≡ Ok tt → from ≡ cells_of (λ e. e.from) o b
       → to ≡ cells_of (λ e. e.to) o b' → marks ≡ cells_of (λ e. e.marks) o b'' → Lent → Reply IsColumn o out size
   judged_by IsColumn (fault number place) b b' b'' column B e s f g h G = absurd (unlike (sym (ap (λ (x : Reading). x.finding) e) ∙ s))
   judged_by IsColumn (job j) b b' b'' column B e s f g h G =
@@ -109,7 +108,7 @@ module _ {text b b' b'' from to marks : List ℕ} {r : Reading} (R : Read text b
       by (job j) B column e = omega (arith, B.edges, ap (λ (x : Reading). x.edges) e)
       by (fault number place) B column e = omega (arith, ap (λ (x : Reading). x.edges) e)
 
-  pub judged_so : {out : List ℕ} {size : ℕ} → r.finding ≡ Sound → Lent r from to marks out size → Replied text out size
+  pub judged_so : {out : List ℕ} {size : ℕ} → r.finding ≡ Ok tt → Lent r from to marks out size → Replied text out size
   judged_so {out} {size} s G =
       let reply = judged_by r from to marks out size (Column text) (read_job text) b b' b'' r.column (read_bounded text) R.reading s R.froms R.tos R.sets G in
       record { printed = reply.printed; says = reply.says; held = reply.held }
@@ -117,12 +116,12 @@ module _ {text b b' b'' from to marks : List ℕ} {r : Reading} (R : Read text b
 -- ---- what is printed
 
 -- in a buffer that is as long as every answer needs
-module _ {text out out' : List ℕ} {r : Printed} (wide : length out ≡ most_printed) (fits : length text ≤ most_printed) (P : Prints text out out' r) where
+module _ {text out out' : List ℕ} {r : Result ℕ Refusal} (wide : length out ≡ most_printed) (fits : length text ≤ most_printed) (P : Prints text out out' r) where
   within : length text ≤ length out
   within = omega arith
 
-  pub shown_whole : {size : ℕ} → r ≡ printed.Text size → Holds text out' size
+  pub shown_whole : {size : ℕ} → r ≡ Ok size → Holds text out' size
   shown_whole e = let all = printed_all within P e in record { all = all.0; cells = all.1 ∙ rw wide }
 
-  pub never_short : {C : Type 0} {number place : ℕ} → r ≡ printed.Refused number place → C
+  pub never_short : {C : Type 0} {number place : ℕ} → r ≡ refused number place → C
   never_short e = never_refused within P e

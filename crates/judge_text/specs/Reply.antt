@@ -1,8 +1,8 @@
 -- What the promise comes to: every text gets an answer or one numbered refusal (docs/RULES.md, "What comes back" and "The job text and the printed answer").
 -- `Replies.answered_or_refused` and `Unique.one_reply`, in proofs/, say that it does. Assumes nothing.
-use Rattle.std.specs.Prelude.{◌≡◌, List, ◌++◌, ◌⊎◌, ℕ, ◌≤◌}
+use Rattle.table.specs.Refusal.{refused}
+use Rattle.std.specs.Prelude.{◌≡◌, List, ◌++◌, ◌⊎◌, ℕ, ◌≤◌, Ok}
 use Rattle.table.specs.declared.Acceptance.{Acceptance}
-use Rattle.table.specs.declared.Finding.TheVariants.{Sound, Refused}
 use Rattle.table.specs.declared.Verdict.{Verdict}
 use Rattle.table.specs.declared.Verdict.TheVariants.{Run}
 use Rattle.job_text.specs.Job.{Job, job, read_job, Column}
@@ -20,7 +20,7 @@ pub record RefusedFor (text printed : List ℕ) : Type 0 where
   pub number : ℕ
   pub place : ℕ
   pub column : ℕ
-  pub cause : first_cause (read_job text) ≡ Refused number place
+  pub cause : first_cause (read_job text) ≡ refused number place
   pub row : TextRow number
   pub first : Column text column
   pub is : printed ≡ refused_text number place column
@@ -30,7 +30,7 @@ pub record RefusedFor (text printed : List ℕ) : Type 0 where
 pub record Answered (text printed : List ℕ) : Type 0 where
   pub asked : Job
   pub read : read_job text ≡ job asked
-  pub sound : first_cause (job asked) ≡ Sound
+  pub sound : first_cause (job asked) ≡ Ok tt
   pub verdict : Verdict
   pub depth : ℕ
   pub room : List ℕ

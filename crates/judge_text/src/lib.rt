@@ -11,10 +11,10 @@ ghost use Rattle.judge_text.specs.Replied.{Holds, Replied};
 ghost use Rattle.judge_text.specs.HoaReplied.{HoaReplied};
 ghost use Rattle.judge_text.specs.inner.{Judged};
 
-use answer_text::{Printed, print, print_refused};
+use answer_text::{print, print_refused};
 use hoa::{HoaFinding, read_hoa};
 use job_text::reader::read;
-use table::{Acceptance, Answer, Finding};
+use table::{Acceptance, Answer};
 
 // No printed answer is longer: at most 8,703 edges, numbers of three digits or `stop`, with their commas, and what stands around them.
 pub const MOST_PRINTED: usize = 43635;
@@ -33,12 +33,9 @@ fn show(answer: Answer, condition: Acceptance, room: &[u32], out: &mut [u8; MOST
     ensures { Holds (answer_text answer.verdict 0 answer.depth condition room.now) out.new result }
 {
     match print(answer, condition, room, out) {
-        Printed::Text { length } => length,
+        Ok(length) => length,
         // never: it fits
-        Printed::Refused {
-            number: _,
-            place: _,
-        } => 0,
+        Err(_) => 0,
     }
 }
 
@@ -47,12 +44,9 @@ fn show_refused(number: u32, place: u32, column: u32, out: &mut [u8; MOST_PRINTE
     ensures { Holds (refused_text number place column) out.new result }
 {
     match print_refused(number, place, column, out) {
-        Printed::Text { length } => length,
+        Ok(length) => length,
         // never: it fits
-        Printed::Refused {
-            number: _,
-            place: _,
-        } => 0,
+        Err(_) => 0,
     }
 }
 
@@ -95,21 +89,18 @@ pub fn judge_text(text: &[u8], out: &mut [u8; MOST_PRINTED]) -> usize
     let mut to = [0u32; 512];
     let mut marks = [0u32; 512];
     let job = read(text, &mut from, &mut to, &mut marks);
-    let finding = job.finding;
-    if let Finding::Refused { number, place } = finding {
-        return show_refused(number, place, job.column, out);
+    if let Err(cause) = job.finding {
+        return show_refused(cause.number, cause.place, job.column, out);
     }
     let m = job.edges as usize;
-    let condition = job.condition;
-    let needs = job.needs;
     answer_job(
         job.states,
         job.start,
         &from[0..m],
         &to[0..m],
         &marks[0..m],
-        condition,
-        needs,
+        job.condition,
+        job.needs,
         out,
     )
 }
@@ -126,21 +117,18 @@ pub fn judge_hoa(text: &[u8], out: &mut [u8; MOST_PRINTED]) -> usize
     let mut to = [0u32; 512];
     let mut marks = [0u32; 512];
     let hoa = read_hoa(text, &mut from, &mut to, &mut marks);
-    let finding = hoa.finding;
-    if let HoaFinding::Refused { number, place } = finding {
+    if let HoaFinding::Refused { number, place } = hoa.finding {
         return show_refused(number, place as u32, 0, out);
     }
     let m = hoa.edges as usize;
-    let condition = hoa.condition;
-    let needs = hoa.needs;
     answer_job(
         hoa.states,
         hoa.start,
         &from[0..m],
         &to[0..m],
         &marks[0..m],
-        condition,
-        needs,
+        hoa.condition,
+        hoa.needs,
         out,
     )
 }

@@ -10,10 +10,8 @@ fn largest_need(needs: [u32; 8]) -> u32
     ensures { result ≡ largest needs }
 {
     let mut most: u32 = 0;
-    let mut i: usize = 0;
-    while i < 8 {
-        most = larger(most, needs[i]);
-        i += 1;
+    for need in needs {
+        most = larger(most, need);
     }
     most
 }

@@ -42,17 +42,14 @@ fn lift_level(
 {
     let k = shape.k;
     let leaving = number_of(rung.state, rung.level, shape);
-    let mut i = 0;
-    while i < to.len() {
+    for i in 0..to.len() {
         let landing = land(marks[i], rung.level, k);
         let arriving = number_of(to[i], landing.level, shape);
-        let place = at + i;
-        leaves[place] = leaving;
-        arrives[place] = arriving;
-        bears[place] = landing.marks;
-        i += 1;
+        leaves[at + i] = leaving;
+        arrives[at + i] = arriving;
+        bears[at + i] = landing.marks;
     }
-    at + i
+    at + to.len()
 }
 
 // Writes the edges of a state's row, level by level, from place `at` on; answers with the place behind them.
@@ -73,13 +70,10 @@ fn lift_row(
     ensures row_written { RowWritten shape.k state shape.levels at to.now marks.now
         leaves.old arrives.old bears.old leaves.new arrives.new bears.new }
 {
-    let levels = shape.levels;
     let mut next = at;
-    let mut level = 0;
-    while level < levels {
+    for level in 0..shape.levels {
         let rung = Rung { state, level };
         next = lift_level(rung, shape, to, marks, next, leaves, arrives, bears);
-        level += 1;
     }
     next
 }
@@ -136,16 +130,13 @@ pub fn lift_table(
     ensures { StatesWritten (source (lent shape.states 0 from.now to.now marks.now) shape.k) shape.k shape.states
         leaves.old arrives.old bears.old leaves.new arrives.new bears.new }
 {
-    let states = shape.states;
-    let mut state = 0;
     let mut first = 0;
     let mut place = 0;
-    while state < states {
+    for state in 0..shape.states {
         let end = first + run(&from[first..], state);
         let ends = &to[first..end];
         let sets = &marks[first..end];
         place = lift_state(state, shape, ends, sets, place, leaves, arrives, bears);
         first = end;
-        state += 1;
     }
 }

@@ -14,13 +14,11 @@ pub const WIDTH: u32 = 32;
 pub fn has_mark(set: Marks, mark: u32) -> bool
     ensures { (result ≡ true) ↔ Has mark set }
 {
-    if WIDTH <= mark {
-        return false;
-    }
-    (set >> mark) % 2 == 1
+    mark < WIDTH && (set >> mark) % 2 == 1
 }
 
 // The marks of either set.
+#[tactic(auto, unfolding(crate::specs::Mark::union))]
 pub fn join(a: Marks, b: Marks) -> Marks
     ensures { result ≡ union a b }
 {
@@ -28,6 +26,7 @@ pub fn join(a: Marks, b: Marks) -> Marks
 }
 
 // The marks of the first set that the second has not.
+#[tactic(auto, unfolding(crate::specs::Mark::without))]
 pub fn leave(a: Marks, b: Marks) -> Marks
     ensures { result ≡ without a b }
 {
@@ -53,7 +52,7 @@ pub fn first_marks(k: u32) -> Marks
     ensures { result ≡ first_marks width k }
 {
     if WIDTH <= k {
-        return 4294967295;
+        return u32::MAX;
     }
     (1 << k) - 1
 }

@@ -1,12 +1,13 @@
 -- Two results that a contract of this crate allows for one input are equal; of a judge's run, the lasso's own edges and lengths aside (docs/DECISIONS.md gives
 -- the grounds). Assumes nothing.
+use Rattle.table.specs.declared.Refusal.{Refusal}
+use Rattle.std.specs.Prelude.{Result}
 use mathlib.Core.Path.{◌≡◌, refl, sym, ap, ◌∙◌}
 use mathlib.Core.List.{List}
 use Prim.Native.Nat.{ℕ, ◌<◌}
 use native.Mathlib.Omega.{arith}
 use lib.ListN.{length}
 use Rattle.table.specs.declared.Acceptance.{Acceptance}
-use Rattle.table.specs.declared.Finding.{Finding}
 use Rattle.table.specs.declared.Verdict.{Verdict}
 use Rattle.table.specs.declared.Verdict.TheVariants.{Run, Empty, Refused}
 use Rattle.table.specs.Table.{Table}
@@ -103,7 +104,7 @@ read_once text from to marks r s R S =
 
 -- ---- the writers
 
-pub written_once : (text : List ℕ) (cause : Finding) (out : List ℕ) (r s : TextNumbers) {out₁ out₂ : List ℕ}
+pub written_once : (text : List ℕ) (cause : Result Unit Refusal) (out : List ℕ) (r s : TextNumbers) {out₁ out₂ : List ℕ}
     → TextTells text cause out out₁ r → TextTells text cause out out₂ s → (r ≡ s) × (out₁ ≡ out₂)
 written_once text cause out r s R S =
     let one = given_once R.promised S.promised in

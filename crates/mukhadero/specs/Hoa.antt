@@ -1,12 +1,11 @@
 -- What the C face tells of the Hanoi format and of what is written (docs/RULES.md, "The Hanoi format" and "The job text and the printed answer"): the numbers of
 -- what the reader and the writers promise. Assumes nothing.
-use Rattle.std.specs.Prelude.{◌≡◌, List, ℕ, length}
+use Rattle.table.specs.declared.Refusal.{Refusal}
+use Rattle.std.specs.Prelude.{◌≡◌, List, ℕ, length, Result}
 use Rattle.table.specs.declared.Acceptance.{Acceptance}
-use Rattle.table.specs.declared.Finding.{Finding}
 use Rattle.table.specs.Table.{Table}
 use Rattle.hoa.specs.declared.Hoa.{Hoa}
 use Rattle.hoa.specs.Returned.{ReadInto}
-use Rattle.writing.specs.declared.Written.{Written}
 use Rattle.writing.specs.Writing.{Gives}
 use Rattle.hoa_written.specs.Written.{hoa_text}
 use Rattle.hoa_written.specs.Writing.{write_refusal as hoa_refusal}
@@ -27,8 +26,8 @@ pub record ReadTells (text from to marks : List ℕ) (r : HoaNumbers) (from' to'
 -- ---- the writers
 
 -- the numbers are those of what a writer gives for this text and this first cause to refuse, and the output holds what it promises
-pub record TextTells (text : List ℕ) (cause : Finding) (out out' : List ℕ) (r : TextNumbers) : Type 0 where
-  pub answer : Written
+pub record TextTells (text : List ℕ) (cause : Result Unit Refusal) (out out' : List ℕ) (r : TextNumbers) : Type 0 where
+  pub answer : Result ℕ Refusal
   pub promised : Gives text cause out out' answer
   pub told : r ≡ text_numbers answer
 

@@ -1,5 +1,6 @@
 -- What the C face tells (docs/RULES.md, "What comes back"): the numbers of an answer that the judge, or the translation, promises. Assumes nothing.
-use Rattle.std.specs.Prelude.{◌≡◌, List, ℕ, replicate}
+use Rattle.table.specs.declared.Refusal.{Refusal}
+use Rattle.std.specs.Prelude.{◌≡◌, List, ℕ, replicate, Result}
 use Rattle.table.specs.declared.Acceptance.{Acceptance}
 use Rattle.table.specs.declared.Answer.{Answer}
 use Rattle.table.specs.Table.{Table}
@@ -26,6 +27,6 @@ pub record JudgeTells (t : Table) (c : Acceptance) (needs room room' scratch scr
 
 -- the numbers are those of the answer that the translation promises, and the outputs hold what it promises
 pub record TranslationTells (t : Table) (k : ℕ) (from to marks : List ℕ) (r : TableNumbers) (from' to' marks' : List ℕ) : Type 0 where
-  pub answer : Translation
+  pub answer : Result Translation Refusal
   pub promised : Outcome t k from to marks answer from' to' marks'
   pub told : r ≡ table_numbers answer

@@ -1,5 +1,6 @@
 // The C face, as include/mukhadero.h declares it: the proved judge and the proved translation under C names, with their answers in plain numbers (`face`).
 // Each function takes any input; relies on `judging` and `one_mark` for all that it says. The Hanoi format is in `hanoi`, the job text in `job`.
+// The judges differ in the kind alone, and so do the writers in `hanoi`: C calls each kind by a name of its own, and each is one call of what serves all kinds.
 #![tactic(auto)]
 
 mod hanoi;

@@ -1,4 +1,5 @@
 -- The lifted table is itself a table: rows 1 to 7 accept it as Büchi 1. Assumes nothing.
+use Rattle.std.specs.Prelude.{Ok}
 use mathlib.Core.Path.{◌≡◌, refl, sym, ap, ◌∙◌, subst}
 use mathlib.Core.List.{[]}
 use Prim.Native.Nat.{ℕ, suc, ◌+◌, ◌-◌, ◌*◌, ◌/◌, ◌≤◌, ◌<◌}
@@ -6,7 +7,6 @@ use native.Mathlib.Nat.{div-lt_iff_lt-mul, mul-pos}
 use native.Mathlib.Omega.{arith}
 use lib.ListN.{get_or}
 use Rattle.table.specs.declared.Acceptance.TheVariants.{Buchi}
-use Rattle.table.specs.declared.Finding.TheVariants.{Sound}
 use Rattle.table.specs.Table.{Table, lent, borne}
 use Rattle.table.specs.Refusal.{refusal, most_states, most_edges, Proper}
 use Rattle.table.proofs.Rows.{sorted_far}
@@ -85,9 +85,9 @@ module _ (t : Table) (proper : Proper t) (k : ℕ) where
       ap (λ (m : ℕ). record { states = u.states; start = u.start; edges = m; from = u.from; to = u.to; marks = u.marks })
       (whole_length t proper k (lifted_from t k))
 
-  pub lifted_sound : t.states * levels k ≤ most_states → t.edges * levels k ≤ most_edges → refusal (lifted t k) (Buchi 1) [] ≡ Sound
+  pub lifted_sound : t.states * levels k ≤ most_states → t.edges * levels k ≤ most_edges → refusal (lifted t k) (Buchi 1) [] ≡ Ok tt
   lifted_sound few few_edges =
-      subst (λ (u : Table). refusal u (Buchi 1) [] ≡ Sound) lent_again
+      subst (λ (u : Table). refusal u (Buchi 1) [] ≡ Ok tt) lent_again
       (fit_sound (t.states * levels k) (number k t.start 0) (lifted t k).from (lifted t k).to (lifted t k).marks (Buchi 1) []
       (subst (λ (u : Table). Fit u (Buchi 1) []) (sym lent_again)
       (record {

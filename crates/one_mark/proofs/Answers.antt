@@ -1,4 +1,6 @@
 -- What each answer of the translation follows from, and what follows from it. Assumes nothing.
+use Rattle.table.specs.declared.Refusal.{Refusal}
+use Rattle.std.specs.Prelude.{Result, Ok, Err}
 use mathlib.Core.Path.{◌≡◌, refl, sym, ap, ◌∙◌, subst}
 use mathlib.Core.Bool.{Bool, true, false}
 use mathlib.Core.List.{List, []}
@@ -10,18 +12,15 @@ use borrow.Author.Tests.{ltb-false}
 use Rattle.marks.proofs.Cases.{either_false}
 use Rattle.marks.specs.Mark.{width}
 use Rattle.table.specs.declared.Acceptance.TheVariants.{Buchi}
-use Rattle.table.specs.declared.Finding.{Finding}
-use Rattle.table.specs.declared.Finding.TheVariants.{Sound, Refused as Faulty}
 use Rattle.table.specs.Table.{Table, lent}
-use Rattle.table.specs.Refusal.{refusal, most_states, most_edges}
+use Rattle.table.specs.Refusal.{refusal, most_states, most_edges, refused}
 use Rattle.table.proofs.Door.{CauseAt, refused_row}
 use Rattle.table.proofs.Sound.{Fit, sound_fit, used_few}
 use Rattle.one_mark.specs.declared.Translation.{Translation}
-use Rattle.one_mark.specs.declared.Translation.TheVariants.{Made, Refused}
 use Rattle.climbing.specs.Climb.{levels, number}
 use Rattle.climbing.specs.Source.{source}
 use Rattle.climbing.specs.Translated.{translated}
-use Rattle.one_mark.specs.Outcome.{large, short, answer, number_of, place_of}
+use Rattle.one_mark.specs.Outcome.{large, short, answer, number_of, place_of, made_of}
 use Rattle.climbing.specs.inner.{Ladder, Rising}
 use Rattle.climbing.proofs.Looped.{source_states, source_start, source_edges, source_most}
 
@@ -46,7 +45,7 @@ counts n start k K m from to marks all e =
 
 -- ---- the counts of a sound table
 
-module _ (n start k : ℕ) (from to marks : List ℕ) (sound : refusal (lent n start from to marks) (Buchi k) [] ≡ Sound) where
+module _ (n start k : ℕ) (from to marks : List ℕ) (sound : refusal (lent n start from to marks) (Buchi k) [] ≡ Ok tt) where
   pub fit : Fit (lent n start from to marks) (Buchi k) []
   fit = sound_fit n start from to marks (Buchi k) [] sound
 
@@ -71,59 +70,59 @@ module _ (n start k : ℕ) (from to marks : List ℕ) (sound : refusal (lent n s
 -- ---- each answer, from the tests that lead to it
 
 module _ (t : Table) (k a b c : ℕ) where
-  pub answer_faulty : (number place : ℕ) → refusal t (Buchi k) [] ≡ Faulty number place → Refused number place ≡ answer t k a b c
+  pub answer_faulty : (number place : ℕ) → refusal t (Buchi k) [] ≡ refused number place → refused number place ≡ answer t k a b c
   answer_faulty number place e = rw e
 
-  module _ (sound : refusal t (Buchi k) [] ≡ Sound) where
-    pub answer_large : large (translated t k).states (translated t k).edges ≡ true → Refused 10 0 ≡ answer t k a b c
+  module _ (sound : refusal t (Buchi k) [] ≡ Ok tt) where
+    pub answer_large : large (translated t k).states (translated t k).edges ≡ true → refused 10 0 ≡ answer t k a b c
     answer_large e = rw (sound, e)
 
     module _ (fits : large (translated t k).states (translated t k).edges ≡ false) where
-      pub answer_short : short (translated t k).edges a b c ≡ true → Refused 11 0 ≡ answer t k a b c
+      pub answer_short : short (translated t k).edges a b c ≡ true → refused 11 0 ≡ answer t k a b c
       answer_short e = rw (sound, fits, e)
 
       pub answer_made : short (translated t k).edges a b c ≡ false
-          → Made (translated t k).states (translated t k).edges (translated t k).start ≡ answer t k a b c
+          → made_of (translated t k).states (translated t k).edges (translated t k).start ≡ answer t k a b c
       answer_made e = rw (sound, fits, e)
 
   -- one of the four tests decides
-  by_test : {C : Type 0} → ((number place : ℕ) → refusal t (Buchi k) [] ≡ Faulty number place → C)
-      → (refusal t (Buchi k) [] ≡ Sound → large (translated t k).states (translated t k).edges ≡ true → C)
-      → (refusal t (Buchi k) [] ≡ Sound → large (translated t k).states (translated t k).edges ≡ false → short (translated t k).edges a b c ≡ true → C)
-      → (refusal t (Buchi k) [] ≡ Sound → large (translated t k).states (translated t k).edges ≡ false → short (translated t k).edges a b c ≡ false → C)
+  by_test : {C : Type 0} → ((number place : ℕ) → refusal t (Buchi k) [] ≡ refused number place → C)
+      → (refusal t (Buchi k) [] ≡ Ok tt → large (translated t k).states (translated t k).edges ≡ true → C)
+      → (refusal t (Buchi k) [] ≡ Ok tt → large (translated t k).states (translated t k).edges ≡ false → short (translated t k).edges a b c ≡ true → C)
+      → (refusal t (Buchi k) [] ≡ Ok tt → large (translated t k).states (translated t k).edges ≡ false → short (translated t k).edges a b c ≡ false → C)
       → C
   by_test {C} faulty over few made = by_finding (refusal t (Buchi k) []) refl
     where
-      by_room : refusal t (Buchi k) [] ≡ Sound → large (translated t k).states (translated t k).edges ≡ false
+      by_room : refusal t (Buchi k) [] ≡ Ok tt → large (translated t k).states (translated t k).edges ≡ false
           → (s : Bool) → short (translated t k).edges a b c ≡ s → C
       by_room q e true s = few q e s
       by_room q e false s = made q e s
 
-      by_size : refusal t (Buchi k) [] ≡ Sound → (l : Bool) → large (translated t k).states (translated t k).edges ≡ l → C
+      by_size : refusal t (Buchi k) [] ≡ Ok tt → (l : Bool) → large (translated t k).states (translated t k).edges ≡ l → C
       by_size q true e = over q e
       by_size q false e = by_room q e (short (translated t k).edges a b c) refl
 
-      by_finding : (f : Finding) → refusal t (Buchi k) [] ≡ f → C
-      by_finding (Faulty number place) q = faulty number place q
-      by_finding Sound q = by_size q (large (translated t k).states (translated t k).edges) refl
+      by_finding : (f : Result Unit Refusal) → refusal t (Buchi k) [] ≡ f → C
+      by_finding (Err cause) q = faulty cause.number cause.place q
+      by_finding (Ok done) q = by_size q (large (translated t k).states (translated t k).edges) refl
 
 -- ---- what the number 0 says of the input and of the answer
 
-pub record Granted (t : Table) (k a b c : ℕ) (r : Translation) : Type 0 where
-  pub sound : refusal t (Buchi k) [] ≡ Sound
+pub record Granted (t : Table) (k a b c : ℕ) (r : Result Translation Refusal) : Type 0 where
+  pub sound : refusal t (Buchi k) [] ≡ Ok tt
   pub few : (translated t k).states ≤ most_states
   pub few_edges : (translated t k).edges ≤ most_edges
   pub first_room : (translated t k).edges ≤ a
   pub second_room : (translated t k).edges ≤ b
   pub third_room : (translated t k).edges ≤ c
-  pub made : r ≡ Made (translated t k).states (translated t k).edges (translated t k).start
+  pub made : r ≡ made_of (translated t k).states (translated t k).edges (translated t k).start
 
-module _ (t : Table) (k a b c : ℕ) (r : Translation) (answered : r ≡ answer t k a b c) (none : number_of r ≡ 0) where
+module _ (t : Table) (k a b c : ℕ) (r : Result Translation Refusal) (answered : r ≡ answer t k a b c) (none : number_of r ≡ 0) where
   -- an answer with another number is none of these
-  other : {C : Type 0} (q : Translation) → q ≡ answer t k a b c → 0 < number_of q → C
+  other : {C : Type 0} (q : Result Translation Refusal) → q ≡ answer t k a b c → 0 < number_of q → C
   other q e l = absurd (omega (arith, ap number_of (answered ∙ sym e)))
 
-  all_granted : refusal t (Buchi k) [] ≡ Sound → large (translated t k).states (translated t k).edges ≡ false
+  all_granted : refusal t (Buchi k) [] ≡ Ok tt → large (translated t k).states (translated t k).edges ≡ false
       → short (translated t k).edges a b c ≡ false → Granted t k a b c r
   all_granted q e s =
       let counts = either_false (ltb most_states (translated t k).states) _ e in
@@ -142,9 +141,9 @@ module _ (t : Table) (k a b c : ℕ) (r : Translation) (answered : r ≡ answer 
   pub granted : Granted t k a b c r
   granted =
       by_test t k a b c
-      (λ number place q. other (Refused number place) (answer_faulty t k a b c number place q) (refused_row t (Buchi k) [] number place q).some)
-      (λ q e. other (Refused 10 0) (answer_large t k a b c q e) (omega arith))
-      (λ q e s. other (Refused 11 0) (answer_short t k a b c q e s) (omega arith))
+      (λ number place q. other (refused number place) (answer_faulty t k a b c number place q) (refused_row t (Buchi k) [] number place q).some)
+      (λ q e. other (refused 10 0) (answer_large t k a b c q e) (omega arith))
+      (λ q e s. other (refused 11 0) (answer_short t k a b c q e s) (omega arith))
       all_granted
 
 -- ---- what another number says: rows 1 to 7 "in the same way", with the check's place; then 10 and 11, with place 0
@@ -153,8 +152,8 @@ pub record RefusedRow (t : Table) (number place : ℕ) : Type 0 where
   pub early : number ≤ 7 → CauseAt t.edges number place
   pub late : 7 < number → (10 ≤ number) × ((number ≤ 11) × (place ≡ 0))
 
-module _ (t : Table) (k a b c : ℕ) (r : Translation) (answered : r ≡ answer t k a b c) (some : 0 < number_of r) where
-  early_row : (number place : ℕ) → refusal t (Buchi k) [] ≡ Faulty number place → RefusedRow t number place
+module _ (t : Table) (k a b c : ℕ) (r : Result Translation Refusal) (answered : r ≡ answer t k a b c) (some : 0 < number_of r) where
+  early_row : (number place : ℕ) → refusal t (Buchi k) [] ≡ refused number place → RefusedRow t number place
   early_row number place q =
       let row = refused_row t (Buchi k) [] number place q in
       record { early = λ l. row; late = λ l. absurd (omega (arith, row.most)) }
@@ -162,13 +161,13 @@ module _ (t : Table) (k a b c : ℕ) (r : Translation) (answered : r ≡ answer 
   late_row : (number : ℕ) → 10 ≤ number → number ≤ 11 → RefusedRow t number 0
   late_row number l m = record { early = λ n. absurd (omega arith); late = λ n. (l, (m, refl)) }
 
-  as_answered : (q : Translation) → q ≡ answer t k a b c → RefusedRow t (number_of q) (place_of q) → RefusedRow t (number_of r) (place_of r)
-  as_answered q e = subst (λ (x : Translation). RefusedRow t (number_of x) (place_of x)) (e ∙ sym answered)
+  as_answered : (q : Result Translation Refusal) → q ≡ answer t k a b c → RefusedRow t (number_of q) (place_of q) → RefusedRow t (number_of r) (place_of r)
+  as_answered q e = subst (λ (x : Result Translation Refusal). RefusedRow t (number_of x) (place_of x)) (e ∙ sym answered)
 
   pub refused_at : RefusedRow t (number_of r) (place_of r)
   refused_at =
       by_test t k a b c
-      (λ number place q. as_answered (Refused number place) (answer_faulty t k a b c number place q) (early_row number place q))
-      (λ q e. as_answered (Refused 10 0) (answer_large t k a b c q e) (late_row 10 (omega arith) (omega arith)))
-      (λ q e s. as_answered (Refused 11 0) (answer_short t k a b c q e s) (late_row 11 (omega arith) (omega arith)))
+      (λ number place q. as_answered (refused number place) (answer_faulty t k a b c number place q) (early_row number place q))
+      (λ q e. as_answered (refused 10 0) (answer_large t k a b c q e) (late_row 10 (omega arith) (omega arith)))
+      (λ q e s. as_answered (refused 11 0) (answer_short t k a b c q e s) (late_row 11 (omega arith) (omega arith)))
       (λ q e s. absurd (omega (arith, some, ap number_of (answered ∙ sym (answer_made t k a b c q e s)))))

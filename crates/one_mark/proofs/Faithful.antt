@@ -1,4 +1,6 @@
 -- The theorems on the translation, for every input that is not refused; and two results allowed for one input are equal. Assumes nothing.
+use Rattle.std.specs.Prelude.{Result, Ok, Err}
+use Rattle.table.specs.declared.Refusal.{Refusal}
 use mathlib.Core.Path.{◌≡◌, refl, sym, ap, ◌∙◌}
 use mathlib.Core.List.{List, ◌++◌}
 use Prim.Native.Nat.{ℕ, ◌-◌, ◌*◌, ◌≤◌, ◌<◌}
@@ -8,7 +10,6 @@ use lib.Seq.{take_at}
 use Rattle.table.specs.Table.{Table, lent}
 use Rattle.table.specs.Refusal.{most_edges, Proper}
 use Rattle.one_mark.specs.declared.Translation.{Translation}
-use Rattle.one_mark.specs.declared.Translation.TheVariants.{Made, Refused}
 use Rattle.climbing.specs.Climb.{levels}
 use Rattle.climbing.specs.Source.{source}
 use Rattle.climbing.specs.Translated.{translated, lifted_from, lifted_to, lifted_marks}
@@ -24,13 +25,13 @@ use Rattle.climbing.proofs.StopStates.{stop_empty}
 
 -- ---- two results that the contract allows for one input are equal
 
-pub record Same (r r' : Translation) (l a b l' a' b' : List ℕ) : Type 0 where
+pub record Same (r r' : Result Translation Refusal) (l a b l' a' b' : List ℕ) : Type 0 where
   pub answers : r ≡ r'
   pub from_lists : l ≡ l'
   pub to_lists : a ≡ a'
   pub marks_lists : b ≡ b'
 
-pub one_result : (t : Table) (k : ℕ) (l a b : List ℕ) (r r' : Translation) (l' a' b' l'' a'' b'' : List ℕ)
+pub one_result : (t : Table) (k : ℕ) (l a b : List ℕ) (r r' : Result Translation Refusal) (l' a' b' l'' a'' b'' : List ℕ)
     → Outcome t k l a b r l' a' b' → Outcome t k l a b r' l'' a'' b'' → Same r r' l' a' b' l'' a'' b''
 one_result t k l a b r r' l' a' b' l'' a'' b'' p q =
     let e : r ≡ r' = p.answered ∙ sym q.answered in
@@ -102,7 +103,7 @@ front : (made old l' : List ℕ) (edges : ℕ) → l' ≡ made ++ replicate (len
 front made old l' edges e long = ap (take edges) e ∙ take_at made (replicate (length old - length made) 0) edges long
 
 -- with the number 0, what they hold in front, lent again with the answered counts and start, is the translated table
-pub outputs_hold : (n start : ℕ) (from to marks : List ℕ) (k : ℕ) (l a b : List ℕ) (r : Translation) (l' a' b' : List ℕ)
+pub outputs_hold : (n start : ℕ) (from to marks : List ℕ) (k : ℕ) (l a b : List ℕ) (r : Result Translation Refusal) (l' a' b' : List ℕ)
     → Outcome (lent n start from to marks) k l a b r l' a' b' → number_of r ≡ 0
     → lent (states_of r) (start_of r) (take (edges_of r) l') (take (edges_of r) a') (take (edges_of r) b') ≡ translated (lent n start from to marks) k
 outputs_hold n start from to marks k l a b r l' a' b' o none =
@@ -120,12 +121,12 @@ outputs_hold n start from to marks k l a b r l' a' b' o none =
     ) (lent_again u fits k)
 
 -- with another number nothing was changed
-pub refused_untouched : (t : Table) (k : ℕ) (l a b : List ℕ) (r : Translation) (l' a' b' : List ℕ)
+pub refused_untouched : (t : Table) (k : ℕ) (l a b : List ℕ) (r : Result Translation Refusal) (l' a' b' : List ℕ)
     → Outcome t k l a b r l' a' b' → 0 < number_of r → (l' ≡ l) × ((a' ≡ a) × (b' ≡ b))
-refused_untouched t k l a b (Made states edges start) l' a' b' o some = absurd (omega arith)
-refused_untouched t k l a b (Refused number place) l' a' b' o some = (o.from_held, (o.to_held, o.marks_held))
+refused_untouched t k l a b (Ok counts) l' a' b' o some = absurd (omega arith)
+refused_untouched t k l a b (Err cause) l' a' b' o some = (o.from_held, (o.to_held, o.marks_held))
 
 -- .. and the number and place are those of a row
-pub refused_told : (t : Table) (k : ℕ) (l a b : List ℕ) (r : Translation) (l' a' b' : List ℕ)
+pub refused_told : (t : Table) (k : ℕ) (l a b : List ℕ) (r : Result Translation Refusal) (l' a' b' : List ℕ)
     → Outcome t k l a b r l' a' b' → 0 < number_of r → RefusedRow t (number_of r) (place_of r)
 refused_told t k l a b r l' a' b' o some = refused_at t k (length l) (length a) (length b) r o.answered some

@@ -1,7 +1,6 @@
 -- What the translation is for (the demand on it, for every input that is not refused). Assumes nothing.
-use Rattle.std.specs.Prelude.{◌≡◌, ◌↔◌, List, [], map, ℕ, ◌-◌, ◌*◌, ◌<◌, get_or}
+use Rattle.std.specs.Prelude.{◌≡◌, ◌↔◌, List, [], map, ℕ, ◌-◌, ◌*◌, ◌<◌, get_or, Ok}
 use Rattle.table.specs.declared.Acceptance.TheVariants.{Buchi}
-use Rattle.table.specs.declared.Finding.TheVariants.{Sound}
 use Rattle.table.specs.Table.{Table, waiting, Stop, Walk, borne}
 use Rattle.table.specs.Condition.{Accepted}
 use Rattle.table.specs.Refusal.{refusal}
@@ -48,7 +47,7 @@ pub record Stops (t : Table) (k : ℕ) : Type 0 where
 
 pub record Faithful (t : Table) (k : ℕ) : Type 0 where
   -- the output is itself a table that rows 1 to 7 accept as Büchi 1
-  pub table : refusal (translated t k) (Buchi 1) [] ≡ Sound
+  pub table : refusal (translated t k) (Buchi 1) [] ≡ Ok tt
   pub positions : Positions t k
   pub stop_states : Stops t k
   -- each walk from the start lies under exactly one translated walk of equal length from the new start, and each translated walk over exactly one

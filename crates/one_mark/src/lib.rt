@@ -3,10 +3,10 @@
 // Relies on `table` for rows 1 to 7, on `climbing` for counts and numbers and for what the translated table is (climbing/specs/), on `lifting` for the writing.
 #![tactic(auto)]
 
-ghost use Rattle.std.specs.Prelude.{◌≡◌, ◌-◌, ◌≤◌, length, replicate};
-ghost use Rattle.std.proofs.lemmas.List.Edits.{sets};
+ghost use Rattle.std.specs.Prelude.{◌≡◌, ◌++◌, ◌-◌, ◌≤◌, length, replicate, take};
 ghost use Rattle.table.specs.Table.{lent};
 ghost use Rattle.climbing.specs.Translated.{translated};
+ghost use Rattle.table.specs.Refusal.{refused};
 ghost use Rattle.one_mark.specs.Outcome.{Outcome, answer, large, short};
 ghost use Rattle.one_mark.specs.inner.{Ready, Filled};
 
@@ -14,43 +14,35 @@ use climbing::levels::{Shape, level_count, number_of};
 use climbing::stops::source_count;
 use lifting::lift_table;
 use marks::Marks;
-use table::{Acceptance, Finding, MOST_EDGES, MOST_STATES};
+use table::{Acceptance, MOST_EDGES, MOST_STATES, Refusal};
 
-// What the translation answers: both counts and the new start, or why it refuses, with number and place.
+// A translated table: both counts and the new start.
 #[derive(Clone, Copy)]
-pub enum Translation {
-    Made { states: u32, edges: u32, start: u32 },
-    Refused { number: u32, place: u32 },
+pub struct Translation {
+    pub states: u32,
+    pub edges: u32,
+    pub start: u32,
 }
 
 // Row 10: whether a table to be made is too large.
 fn too_large(states: u32, edges: usize) -> bool
     ensures { result ≡ large states edges }
 {
-    if MOST_STATES < states {
-        return true;
-    }
-    MOST_EDGES < edges
+    MOST_STATES < states || MOST_EDGES < edges
 }
 
 // Row 11: whether one of three outputs, of the lengths `a`, `b` and `c`, is too short for the edges.
 fn too_short(edges: usize, a: usize, b: usize, c: usize) -> bool
     ensures { result ≡ short edges a b c }
 {
-    if a < edges {
-        return true;
-    }
-    if b < edges {
-        return true;
-    }
-    c < edges
+    a < edges || b < edges || c < edges
 }
 
 // A refusal of row 10 or 11.
-fn refused(number: u32) -> Translation
-    ensures { result ≡ Translation.Refused number 0 }
+fn refused(number: u32) -> Result<Translation, Refusal>
+    ensures { result ≡ refused number 0 }
 {
-    Translation::Refused { number, place: 0 }
+    Err(Refusal { number, place: 0 })
 }
 
 // The lengths of the three lent outputs.
@@ -70,14 +62,11 @@ fn foresee(
     marks: &[Marks],
     k: u32,
     lengths: Lengths,
-) -> Translation
+) -> Result<Translation, Refusal>
     ensures { result ≡ answer (lent n start from.now to.now marks.now) k
         lengths.leaves lengths.arrives lengths.bears }
 {
-    let finding = table::check(n, start, from, to, marks, Acceptance::Buchi(k), [0; 8]);
-    if let Finding::Refused { number, place } = finding {
-        return Translation::Refused { number, place };
-    }
+    table::check(n, start, from, to, marks, Acceptance::Buchi(k), [0; 8])?;
     let levels = level_count(k);
     let states = n * levels;
     let edges = source_count(n, from, k) * (levels as usize);
@@ -94,24 +83,19 @@ fn foresee(
     };
     let first = number_of(start, 0, shape);
     let count = edges as u32;
-    Translation::Made {
+    Ok(Translation {
         states,
         edges: count,
         start: first,
-    }
+    })
 }
 
 // Zeros from place `at` to the end.
 fn clear(out: &mut [u32], at: usize)
     requires { at ≤ length out.old }
-    ensures { out.new ≡ sets out.old at (replicate (length out.old - at) 0) }
+    ensures { out.new ≡ take at out.old ++ replicate (length out.old - at) 0 }
 {
-    let left = out.len() - at;
-    let mut i = 0;
-    while i < left {
-        out[at + i] = 0;
-        i += 1;
-    }
+    out[at..].fill(0);
 }
 
 // Writes the translated edges, then zeros.
@@ -146,7 +130,7 @@ pub fn translate(
     leaves: &mut [u32],
     arrives: &mut [u32],
     bears: &mut [Marks],
-) -> Translation
+) -> Result<Translation, Refusal>
     ensures { Outcome (lent n start from.now to.now marks.now) k
         leaves.old arrives.old bears.old result leaves.new arrives.new bears.new }
 {
@@ -155,22 +139,14 @@ pub fn translate(
         arrives: arrives.len(),
         bears: bears.len(),
     };
-    let answer = foresee(n, start, from, to, marks, k, lengths);
-    let Translation::Made {
-        states: _,
-        edges,
-        start: _,
-    } = answer
-    else {
-        return answer;
-    };
+    let made = foresee(n, start, from, to, marks, k, lengths)?;
     let levels = level_count(k);
     let shape = Shape {
         states: n,
         k,
         levels,
     };
-    let m = edges as usize;
+    let m = made.edges as usize;
     fill(shape, from, to, marks, m, leaves, arrives, bears);
-    answer
+    Ok(made)
 }

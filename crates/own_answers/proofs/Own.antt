@@ -1,4 +1,7 @@
 -- What the checker says of our own answers: a run is accepted, empty is no run, a refusal is told again. Assumes nothing.
+use Rattle.table.specs.Refusal.{refused}
+use Rattle.table.specs.declared.Refusal.{Refusal}
+use Rattle.std.specs.Prelude.{Result, Ok}
 use mathlib.Core.Path.{◌≡◌, refl, sym, ap, ◌∙◌, subst}
 use mathlib.Core.Logic.{◌↔◌, ◌⊎◌, inl, inr}
 use mathlib.Core.List.{List, ◌++◌}
@@ -7,10 +10,9 @@ use native.Mathlib.Omega.{arith}
 use lib.ListN.{get_or, take, replicate}
 use lib.Seq.{take-append_seam, get_or-take}
 use Rattle.table.specs.declared.Acceptance.{Acceptance}
-use Rattle.table.specs.declared.Finding.{Finding}
-use Rattle.table.specs.declared.Finding.TheVariants.{Sound, Refused}
 use Rattle.table.specs.declared.Verdict.{Verdict}
 use Rattle.table.specs.declared.Verdict.TheVariants as verdict
+use Rattle.table.proofs.Door.{same_told}
 use Rattle.table.proofs.Sound.{Fit, sound_fit}
 use Rattle.job_text.specs.Value.{most_number}
 use Rattle.job_text.specs.Job.{Job, Outcome, job, fault, read_job, Column}
@@ -55,20 +57,19 @@ refused_not_run number place column r = let z : ◌≡◌ {A = ℕ} 101 117 = ap
 
 -- ---- a refused job
 
-told_again : (text : List ℕ) (o : Outcome) → read_job text ≡ o → (answer : List ℕ) (number place column : ℕ) (r : Checked) → first_cause o ≡ Refused number place → Column text column
+told_again : (text : List ℕ) (o : Outcome) → read_job text ≡ o → (answer : List ℕ) (number place column : ℕ) (r : Checked) → first_cause o ≡ refused number place → Column text column
     → ByJob text o answer r → r ≡ checked.Refused number place column
 told_again text (fault x y) q answer number place column r e k T =
-    let a : x ≡ number = cc in
-    let b : y ≡ place = cc in
+    let same = same_told e in
     let d : T.column ≡ column = one_column text T.column column T.first k in
-    T.told ∙ rw (a, b, d)
+    T.told ∙ rw (same.0, same.1, d)
 told_again text (job j) q answer number place column r e k T =
-    let told : r ≡ checked.Refused number place 0 = subst (λ (f : Finding). ByCause f (job_table j) j.condition j.needs answer r) e T in
+    let told : r ≡ checked.Refused number place 0 = subst (λ (f : Result Unit Refusal). ByCause f (job_table j) j.condition j.needs answer r) e T in
     told ∙ ap (checked.Refused number place) (one_column text 0 column (job_column text j q) k)
 
 -- ---- an answered job
 
-module _ (text printed : List ℕ) (j : Job) (read : read_job text ≡ job j) (sound : first_cause (job j) ≡ Sound) where
+module _ (text printed : List ℕ) (j : Job) (read : read_job text ≡ job j) (sound : first_cause (job j) ≡ Ok tt) where
   -- no table is so long that its edges could not be printed, and the condition is a permitted one
   fit : Fit (job_table j) j.condition j.needs
   fit = sound_fit j.states j.start (edge_cells (λ e. e.from) j) (edge_cells (λ e. e.to) j) (edge_cells (λ e. e.marks) j) j.condition j.needs sound
@@ -99,7 +100,7 @@ module _ (text printed : List ℕ) (j : Job) (read : read_job text ≡ job j) (s
   empty_told N =
       let told : Told (job_table j) j.condition j.needs printed (checked.Refused 51 0 0) = no_run N refl in
       let caused : ByJob text (job j) printed (checked.Refused 51 0 0) =
-      subst (λ (f : Finding). ByCause f (job_table j) j.condition j.needs printed (checked.Refused 51 0 0)) (sym sound) told in
+      subst (λ (f : Result Unit Refusal). ByCause f (job_table j) j.condition j.needs printed (checked.Refused 51 0 0)) (sym sound) told in
       subst (λ (o : Outcome). ByJob text o printed (checked.Refused 51 0 0)) (sym read) caused
 
   by_verdict : (v : Verdict) (depth : ℕ) (room : List ℕ) → Decided (job_table j) j.condition j.needs v room → Deep (job_table j) j.condition v depth

@@ -1,7 +1,7 @@
 -- What the checker says of our own answers (docs/RULES.md, "An answer that is checked", our own answers). That this is so is `Own.own_answers`, in proofs/.
 -- Assumes nothing.
+use Rattle.table.specs.Refusal.{refused as refused_at}
 use Rattle.std.specs.Prelude.{◌≡◌, ◌↔◌, List, ℕ, length, take}
-use Rattle.table.specs.declared.Finding.TheVariants as finding
 use Rattle.table.specs.declared.Verdict.{Verdict}
 use Rattle.table.specs.declared.Verdict.TheVariants.{Run, Empty}
 use Rattle.job_text.specs.Job.{read_job, Column}
@@ -20,7 +20,7 @@ Begins v text = take (length (shown verdict= (verdict_word v))) text ≡ shown v
 pub data OwnSaid (text printed : List ℕ) (r : Checked) : Type 0 where
   run : Begins (Run 0 0 0) printed → r ≡ Accepted → OwnSaid text printed r
   empty : Begins Empty printed → r ≡ Refused 51 0 0 → OwnSaid text printed r
-  refused : (number place column : ℕ) → first_cause (read_job text) ≡ finding.Refused number place → Column text column → printed ≡ refused_text number place column
+  refused : (number place column : ℕ) → first_cause (read_job text) ≡ refused_at number place → Column text column → printed ≡ refused_text number place column
       → r ≡ Refused number place column → OwnSaid text printed r
 
 -- for every job text, and every answer to it that the judge's promise allows: the first `size` bytes of `out`

@@ -5,8 +5,8 @@ use Prim.Native.Nat.{ℕ, zero, suc, ◌+◌, ◌-◌, ◌/◌, ◌%◌, ◌^◌
 use native.Mathlib.Nat.{pow-suc, add-zero}
 use native.Mathlib.Numerals.{add-one}
 use native.Mathlib.Omega.{arith}
-use lib.ListN.{length, get_or, take, drop, set, length-append, length-replicate, take-append-drop, replicate, replicate-append-replicate}
-use lib.Seq.{sets, sets-eq, length-sets, set_out, take-suc, length-take-le, take-length, drop-length, drop-cons, set_at, take_at, set_comm}
+use lib.ListN.{length, get_or, take, set, length-append, replicate}
+use lib.Seq.{sets, sets-eq, length-sets, take-suc, take-length, take_at, set_comm}
 use borrow.Author.Tests.{lt-ltb, le-ltb}
 use Rattle.marks.proofs.Cases.{below}
 use Rattle.puts.specs.Put.{decimal_in, decimal, joined, Put}
@@ -29,13 +29,6 @@ put_both {out} {mid} {out'} {at} {m} {r} {a} {b} p q =
       next = omega (arith, p.next, q.next, length-append a b);
     }
 
--- a byte: written where there is room, and counted
-pub put_in : (out : List ℕ) (at b : ℕ) → Put out (set out at b) at (b ∷ []) (at + 1)
-put_in out at b = record { cells = refl; next = refl }
-
-pub put_out : (out : List ℕ) (at b : ℕ) → length out ≤ at → Put out out at (b ∷ []) (at + 1)
-put_out out at b l = record { cells = sym (set_out out at b l); next = refl }
-
 -- a word, byte by byte
 pub word_more : (out mid out' : List ℕ) (at i r : ℕ) (word : List ℕ) → i < length word → Put out mid at (take i word) (at + i) → Put mid out' (at + i) (get_or word i 0 ∷ []) r
     → Put out out' at (take (i + 1) word) (at + (i + 1))
@@ -53,27 +46,6 @@ joined_length f k = length-append (joined f k) (f k)
 pub joined_zero : (f : ℕ → List ℕ) → length (joined f 0) ≡ 0
 unfolding joined
 joined_zero f = refl
-
--- ---- zeros to the end
-
--- the cells from a place up to i are 0, those after it as they were
-abbrev pub cleared : List ℕ → ℕ → ℕ → List ℕ
-cleared out from i = take from out ++ (replicate (i - from) 0 ++ drop i out)
-
-pub clear_none : (out : List ℕ) (from : ℕ) → out ≡ cleared out from from
-clear_none out from = let e : from - from ≡ 0 = omega arith in rw e (sym (take-append-drop from out))
-
-pub clear_more : (out : List ℕ) (from i : ℕ) → from ≤ i → i < length out → set (cleared out from i) i 0 ≡ cleared out from (i + 1)
-clear_more out from i l h =
-    let n : length (take from out ++ replicate (i - from) 0) ≡ i =
-    omega (arith, length-append (take from out) (replicate (i - from) 0), length-take-le from out (omega arith), length-replicate {A = ℕ} (i - from) 0) in
-    let q : i + 1 - from ≡ i - from + 1 = omega arith in
-    rw (drop-cons out i 0 h, ← append_assoc (take from out) (replicate (i - from) 0) (get_or out i 0 ∷ drop (suc i) out))
-    (set_at (take from out ++ replicate (i - from) 0) (get_or out i 0) (drop (suc i) out) 0 i n
-    ∙ rw (q, ← replicate-append-replicate {A = ℕ} (i - from) 1 0, append_assoc, append_assoc, add-one))
-
-pub clear_all : (out : List ℕ) (from i : ℕ) → i ≡ length out → cleared out from i ≡ take from out ++ replicate (length out - from) 0
-clear_all out from i e = rw (e, drop-length out, append-nil)
 
 -- ---- digits
 
@@ -184,6 +156,11 @@ digits_put {out} {out'} {at} {n} {left} {rest} l e D =
     let J : decimal n ≡ D.written = rw z at D.joins in
     let C : out' ≡ sets out at D.written = rw (z, add-zero at) at D.cells in
     record { cells = rw J C; next = omega arith }
+
+-- what counting the digits of a number uses, and what writing them from the last one on uses
+pub ruleset digit_counts = (decimal_one, decimal_longer, decimal_few)
+
+pub ruleset digit_puts = (decimal_few, digits_none, digits_more, digits_put)
 
 -- ---- a whole buffer, written from its beginning
 

@@ -12,7 +12,6 @@ pub fn put(out: &mut [u8], at: usize, byte: u8) -> usize
 {
     if at < out.len() {
         out[at] = byte;
-        return at + 1;
     }
     at + 1
 }
@@ -22,15 +21,14 @@ pub fn put_word(out: &mut [u8], at: usize, word: &[u8]) -> usize
     requires { at + length word.now < 2 ^ 60 }
     ensures { Put out.old out.new at word.now result }
 {
-    let mut i = 0;
-    while i < word.len() {
-        put(out, at + i, word[i]);
-        i += 1;
+    for (i, byte) in word.iter().enumerate() {
+        put(out, at + i, *byte);
     }
     at + word.len()
 }
 
 // How many decimal digits a number has.
+#[tactic(auto, using(crate::proofs::Puts::digit_counts))]
 pub fn count_digits(n: u32) -> usize
     ensures { result ≡ length (decimal n) }
 {
@@ -44,16 +42,15 @@ pub fn count_digits(n: u32) -> usize
 }
 
 // The decimal digits of a number, no leading zeros; the last one is written first.
+#[tactic(auto, using(crate::proofs::Puts::digit_puts))]
 pub fn put_number(out: &mut [u8], at: usize, n: u32) -> usize
     requires { at < 2 ^ 59 }
     ensures { PutFew out.old out.new at (decimal n) result 10 }
 {
     let count = count_digits(n);
-    let mut left = count;
     let mut rest = n;
-    while 0 < left {
-        left -= 1;
-        put(out, at + left, b'0' + (rest % 10) as u8);
+    for i in (0..count).rev() {
+        put(out, at + i, b'0' + (rest % 10) as u8);
         rest /= 10;
     }
     at + count
@@ -74,9 +71,5 @@ pub fn clear(out: &mut [u8], from: usize)
     requires { from ≤ length out.old }
     ensures { out.new ≡ take from out.old ++ replicate (length out.old - from) 0 }
 {
-    let mut i = from;
-    while i < out.len() {
-        out[i] = 0;
-        i += 1;
-    }
+    out[from..].fill(0);
 }

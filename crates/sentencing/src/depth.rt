@@ -6,27 +6,20 @@ ghost use Rattle.sentencing.specs.inner.Judged.{depth_of, lowered};
 use dividing::parts::Part;
 
 // What a judgement comes to: a part that holds an accepted lasso, or none, with the number of levels that the erasing went down.
-#[derive(Clone, Copy)]
-pub enum Judged {
-    Found(Part),
-    Nothing(u32),
-}
+pub type Judged = Result<Part, u32>;
 
 // The larger of two numbers.
 pub fn larger(a: u32, b: u32) -> u32
     ensures { result ≡ max a b }
 {
-    if a < b { b } else { a }
+    a.max(b)
 }
 
 // How deep the erasing went where nothing was found.
 pub fn depth_of(said: Judged) -> u32
     ensures { result ≡ depth_of said }
 {
-    match said {
-        Judged::Found(_part) => 0,
-        Judged::Nothing(depth) => depth,
-    }
+    said.err().unwrap_or(0)
 }
 
 // What was judged of the parts of a divided part, said of the part itself: they are a level lower.
@@ -34,8 +27,5 @@ pub fn lower(said: Judged) -> Judged
     requires { depth_of said < width }
     ensures { result ≡ lowered said }
 {
-    match said {
-        Judged::Found(part) => Judged::Found(part),
-        Judged::Nothing(depth) => Judged::Nothing(depth + 1),
-    }
+    said.map_err(|depth| depth + 1)
 }

@@ -1,8 +1,9 @@
 -- Rows 5, 6 and 7 edge by edge, in the tests that `edges::first_fault` makes. Assumes nothing.
+use Rattle.table.specs.declared.Refusal.{Refusal}
+use Rattle.std.specs.Prelude.{Result, Ok}
 use mathlib.Core.Path.{◌≡◌, refl, sym, ap, ◌∙◌}
 use mathlib.Core.Bool.{Bool, true, false, not, true≢false}
 use mathlib.Core.Logic.{◌↔◌}
-use mathlib.Core.List.{List}
 use Prim.Native.Nat.{ℕ, zero, suc, ◌+◌, ◌-◌, ◌^◌, ◌≤◌, ◌<◌}
 use native.Mathlib.Nat.{sub-zero}
 use native.Mathlib.Numerals.{add-one}
@@ -13,10 +14,9 @@ use borrow.Author.Tests.{le-leb, lt-leb, lt-ltb, le-ltb, not-true, not-false}
 use Rattle.marks.specs.Mark.{Covers, first_marks, width}
 use Rattle.marks.proofs.Cases.{below}
 use Rattle.marks.proofs.Laws.{has_first, Has-fits, fits_has}
-use Rattle.table.specs.declared.Finding.{Finding}
-use Rattle.table.specs.declared.Finding.TheVariants.{Sound, Refused}
-use Rattle.table.specs.Table.{Table, borne, lent}
-use Rattle.table.specs.Refusal.{wrong_order, wrong_end, edge_refusal}
+use Rattle.table.specs.declared.Refusal.{Refusal}
+use Rattle.table.specs.Table.{Table, borne}
+use Rattle.table.specs.Refusal.{wrong_order, wrong_end, edge_refusal, refused}
 use Rattle.table.specs.inner.Looks.{before}
 
 -- row 6 by the from state that the code holds
@@ -33,23 +33,23 @@ pub record Passed (t : Table) (u e last : ℕ) : Type 0 where
 pub none_passed : (t : Table) (u : ℕ) → Passed t u 0 0
 none_passed t u = record { within = omega arith; came = refl; known = ap (edge_refusal t u 0) (sym (sub-zero t.edges)) }
 
-pub all_passed : (t : Table) (u e last : ℕ) → Passed t u e last → t.edges ≤ e → Sound ≡ edge_refusal t u 0 t.edges
+pub all_passed : (t : Table) (u e last : ℕ) → Passed t u e last → t.edges ≤ e → Ok tt ≡ edge_refusal t u 0 t.edges
 all_passed t u e last p over =
     let none : t.edges - e ≡ 0 = omega arith in
     sym (p.known ∙ ap (edge_refusal t u e) none)
 
 -- what edge e decides, or hands on to the edges after it
 module _ (t : Table) (u e last : ℕ) (p : Passed t u e last) (listed : e < t.edges) where
-  decided : {f : Finding} → edge_refusal t u e (suc (t.edges - suc e)) ≡ f → edge_refusal t u 0 t.edges ≡ f
+  decided : {f : Result Unit Refusal} → edge_refusal t u e (suc (t.edges - suc e)) ≡ f → edge_refusal t u 0 t.edges ≡ f
   decided f =
       let k : t.edges - e ≡ suc (t.edges - suc e) = omega arith in
       p.known ∙ ap (edge_refusal t u e) k ∙ f
 
-  pub five_leaves : t.states ≤ get_or t.from e 0 → Refused 5 e ≡ edge_refusal t u 0 t.edges
+  pub five_leaves : t.states ≤ get_or t.from e 0 → refused 5 e ≡ edge_refusal t u 0 t.edges
   five_leaves h = sym (decided (simp (le-leb t.states (get_or t.from e 0) h)))
 
   module _ (h₁ : get_or t.from e 0 < t.states) where
-    pub five_arrives : t.states ≤ get_or t.to e 0 → Refused 5 e ≡ edge_refusal t u 0 t.edges
+    pub five_arrives : t.states ≤ get_or t.to e 0 → refused 5 e ≡ edge_refusal t u 0 t.edges
     five_arrives h = sym (decided (simp (lt-leb t.states (get_or t.from e 0) h₁, le-leb t.states (get_or t.to e 0) h)))
 
     module _ (h₂ : get_or t.to e 0 < t.states) where
@@ -59,11 +59,11 @@ module _ (t : Table) (u e last : ℕ) (p : Passed t u e last) (listed : e < t.ed
       order : wrong_order t e ≡ ltb (get_or t.from e 0) last
       order = order_test t e ∙ ap (ltb (get_or t.from e 0)) (sym p.came)
 
-      pub six : get_or t.from e 0 < last → Refused 6 e ≡ edge_refusal t u 0 t.edges
+      pub six : get_or t.from e 0 < last → refused 6 e ≡ edge_refusal t u 0 t.edges
       six h = sym (decided (rw (ends, order, lt-ltb (get_or t.from e 0) last h)))
 
       module _ (h₃ : last ≤ get_or t.from e 0) where
-        pub seven : 2 ^ u ≤ borne t e → Refused 7 e ≡ edge_refusal t u 0 t.edges
+        pub seven : 2 ^ u ≤ borne t e → refused 7 e ≡ edge_refusal t u 0 t.edges
         seven h = sym (decided (rw (ends, order, le-ltb (get_or t.from e 0) last h₃, le-leb (2 ^ u) (borne t e) h)))
 
         faultless : borne t e < 2 ^ u → edge_refusal t u e (suc (t.edges - suc e)) ≡ edge_refusal t u (suc e) (t.edges - suc e)
@@ -89,10 +89,3 @@ uncovered u x {b} w says h =
 
 pub covered : (u x : ℕ) {b : Bool} → ((b ≡ true) ↔ Covers (first_marks width u) x) → not b ≡ false → x < 2 ^ u
 covered u x {b} says h = covered_small u x (says.0 (not-false b h))
-
--- rows 5 to 7 do not look at the start
-pub start_aside : (n start : ℕ) (from to marks : List ℕ) (u e k : ℕ)
-    → edge_refusal (lent n start from to marks) u e k ≡ edge_refusal (lent n 0 from to marks) u e k
-start_aside n start from to marks u e zero = refl
-start_aside n start from to marks u zero (suc k) = rw (start_aside n start from to marks u 1 k)
-start_aside n start from to marks u (suc e) (suc k) = rw (start_aside n start from to marks u (suc (suc e)) k)

@@ -1,5 +1,4 @@
--- Causes, Faults, Looks: rows 1 to 4, rows 5 to 7 edge by edge, and rows 5 to 7 by one look
-pub mod Causes
+-- Faults, Looks: rows 5 to 7 edge by edge, and by one look
 pub mod Faults
 pub mod Looks
 -- Sound: exactly which tables are found sound

@@ -1,5 +1,6 @@
 -- A look over the edges, one edge after the other, and what it shows of all: where nothing falls, the last from state is the highest, and
 -- rows 5 to 7 find no fault. Assumes nothing.
+use Rattle.std.specs.Prelude.{Ok}
 use mathlib.Core.Path.{◌≡◌, refl, sym, ap, subst}
 use mathlib.Core.Logic.{inl, inr}
 use mathlib.Core.List.{List}
@@ -10,7 +11,6 @@ use borrow.Author.Tests.{le-ltb}
 use Rattle.marks.specs.Mark.{Covers, union, first_marks, width}
 use Rattle.marks.proofs.Cases.{same, below}
 use Rattle.marks.proofs.Laws.{Has-union}
-use Rattle.table.specs.declared.Finding.TheVariants.{Sound}
 use Rattle.table.specs.Table.{lent}
 use Rattle.table.specs.Refusal.{edge_refusal}
 use Rattle.table.specs.inner.Looks.{before, Above, Shows}
@@ -70,7 +70,7 @@ last_highest from (suc e) up d l =
 
 -- a look that shows no fault shows a sound table
 pub shown_sound : (n top : ℕ) (from to marks : List ℕ) (used h l u f : ℕ) → Shows top from to marks (length from) h l u f
-    → f ≡ 0 → h ≡ 0 → top < n → l < n → Covers (first_marks width used) u → edge_refusal (lent n 0 from to marks) used 0 (length from) ≡ Sound
+    → f ≡ 0 → h ≡ 0 → top < n → l < n → Covers (first_marks width used) u → edge_refusal (lent n 0 from to marks) used 0 (length from) ≡ Ok tt
 shown_sound n top from to marks used h l u f s none not-astray low last few = fit_edges (lent n 0 from to marks) used 0 (length from) (λ d b₀ b. fit d (omega arith))
   where
     fit : (d : ℕ) → d < length from → EdgeFit (lent n 0 from to marks) used d

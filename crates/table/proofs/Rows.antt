@@ -6,8 +6,8 @@ use mathlib.Core.List.{List, [], ◌∷◌}
 use Prim.Native.Nat.{ℕ, zero, suc, ◌+◌, ◌-◌, ◌≤◌, ◌<◌}
 use native.Mathlib.Nat.{le_refl, le_trans, add-suc, add-zero}
 use native.Mathlib.Omega.{arith}
-use lib.ListN.{length, get_or, drop, length-take, length-drop, drop_of_length-le}
-use lib.Seq.{drop-cons, get_or-take, get_or-drop}
+use lib.ListN.{length, get_or, drop, length-take, length-drop}
+use lib.Seq.{get_or-take, get_or-drop}
 use borrow.Author.Tests.{eq-eqb, ne_eqb}
 use Rattle.marks.proofs.Cases.{same, below}
 use Rattle.table.specs.Row.{part, run, Row}
@@ -22,16 +22,6 @@ pub part_at : (a b : ℕ) (xs : List ℕ) (i : ℕ) → i < b - a → get_or (pa
 part_at a b xs i h = rw (get_or-take, get_or-drop)
 
 -- ---- a run
-
-module _ (s : ℕ) (xs : List ℕ) (i : ℕ) (h : i < length xs) where
-  pub run_more : get_or xs i 0 ≡ s → run s (drop i xs) ≡ suc (run s (drop (suc i) xs))
-  run_more e = ap (run s) (drop-cons xs i 0 h) ∙ ap (λ (b : Bool). cond b (suc (run s (drop (suc i) xs))) 0) (eq-eqb (get_or xs i 0) s e)
-
-  pub run_none : (get_or xs i 0 ≡ s → ⊥) → run s (drop i xs) ≡ 0
-  run_none e = ap (run s) (drop-cons xs i 0 h) ∙ ap (λ (b : Bool). cond b (suc (run s (drop (suc i) xs))) 0) (ne_eqb (get_or xs i 0) s e)
-
-pub run_over : (s : ℕ) (xs : List ℕ) (i : ℕ) → length xs ≤ i → run s (drop i xs) ≡ 0
-run_over s xs i h = ap (run s) (drop_of_length-le xs h)
 
 -- the cells of a run, the cell after it, and where it ends
 pub run_inside : (s : ℕ) (xs : List ℕ) (i : ℕ) → i < run s xs → get_or xs i 0 ≡ s

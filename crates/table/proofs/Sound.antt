@@ -1,4 +1,6 @@
 -- Exactly the proper tables whose edges bear only marks that a permitted condition uses are found sound. Assumes nothing.
+use Rattle.table.specs.declared.Refusal.{Refusal}
+use Rattle.std.specs.Prelude.{Result, Ok}
 use mathlib.Core.Path.{◌≡◌, refl, sym, ap, ◌∙◌, subst}
 use mathlib.Core.Bool.{Bool, true, false, not, ◌||◌, cond}
 use mathlib.Core.List.{List}
@@ -11,11 +13,9 @@ use Rattle.marks.specs.Mark.{width}
 use Rattle.marks.proofs.Cases.{same, either_false}
 use Rattle.table.specs.declared.Acceptance.{Acceptance}
 use Rattle.table.specs.declared.Acceptance.TheVariants.{Buchi, Streett, Rabin}
-use Rattle.table.specs.declared.Finding.{Finding}
-use Rattle.table.specs.declared.Finding.TheVariants.{Sound, Refused}
 use Rattle.table.specs.Table.{Table, borne, lent}
 use Rattle.table.specs.Condition.{dealt}
-use Rattle.table.specs.Refusal.{some_need, used, wrong_states, wrong_edges, wrong_start, wrong_condition, wrong_end, wrong_order, wrong_mark}
+use Rattle.table.specs.Refusal.{some_need, used, wrong_states, wrong_edges, wrong_start, wrong_condition, wrong_end, wrong_order, wrong_mark, refused}
 use Rattle.table.specs.Refusal.{edge_refusal, refusal, most_states, most_edges, Proper, MarksBelow}
 
 -- ---- the tests, taken apart and put together
@@ -23,11 +23,11 @@ use Rattle.table.specs.Refusal.{edge_refusal, refusal, most_states, most_edges, 
 neither : (a b : Bool) → a ≡ false → b ≡ false → (a || b) ≡ false
 neither a b p q = ap (λ (x : Bool). x || b) p ∙ q
 
-cond_sound : (b : Bool) (number place : ℕ) (f : Finding) → cond b (Refused number place) f ≡ Sound → (b ≡ false) × (f ≡ Sound)
+cond_sound : (b : Bool) (number place : ℕ) (f : Result Unit Refusal) → cond b (refused number place) f ≡ Ok tt → (b ≡ false) × (f ≡ Ok tt)
 cond_sound true number place f e = let z : ◌≡◌ {A = ℕ} 0 1 = cc in absurd (omega arith)
 cond_sound false number place f e = (refl, e)
 
-passed : (b : Bool) (g f : Finding) → b ≡ false → f ≡ Sound → cond b g f ≡ Sound
+passed : (b : Bool) (g f : Result Unit Refusal) → b ≡ false → f ≡ Ok tt → cond b g f ≡ Ok tt
 passed b g f p q = ap (λ (x : Bool). cond x g f) p ∙ q
 
 same_test : (a b : ℕ) → not (eqb a b) ≡ false → a ≡ b
@@ -56,7 +56,7 @@ pub record EdgeFit (t : Table) (u e : ℕ) : Type 0 where
   pub order : wrong_order t e ≡ false
   pub marks : borne t e < 2 ^ u
 
-edges_fit : (t : Table) (u e k : ℕ) → edge_refusal t u e k ≡ Sound → (i : ℕ) → e ≤ i → i < e + k → EdgeFit t u i
+edges_fit : (t : Table) (u e k : ℕ) → edge_refusal t u e k ≡ Ok tt → (i : ℕ) → e ≤ i → i < e + k → EdgeFit t u i
 edges_fit t u e zero h i l b = absurd (omega arith)
 edges_fit t u e (suc k) h i l b =
     let five = cond_sound (wrong_end t e) 5 e _ h in
@@ -72,15 +72,15 @@ edges_fit t u e (suc k) h i l b =
     }))
     (λ q. edges_fit t u (suc e) k seven.1 i (omega arith) (omega arith))
 
-pub fit_edges : (t : Table) (u e k : ℕ) → ((i : ℕ) → e ≤ i → i < e + k → EdgeFit t u i) → edge_refusal t u e k ≡ Sound
+pub fit_edges : (t : Table) (u e k : ℕ) → ((i : ℕ) → e ≤ i → i < e + k → EdgeFit t u i) → edge_refusal t u e k ≡ Ok tt
 fit_edges t u e zero f = refl
 fit_edges t u e (suc k) f =
     let g = f e (omega arith) (omega arith) in
     let leaves = lt-leb t.states (get_or t.from e 0) g.leaves in
     let arrives = lt-leb t.states (get_or t.to e 0) g.arrives in
-    passed (wrong_end t e) (Refused 5 e) _ (neither (leb t.states (get_or t.from e 0)) _ leaves arrives)
-    (passed (wrong_order t e) (Refused 6 e) _ g.order
-    (passed (wrong_mark t u e) (Refused 7 e) _ (lt-leb (2 ^ u) (borne t e) g.marks) (fit_edges t u (suc e) k (λ i l b. f i (omega arith) (omega arith)))))
+    passed (wrong_end t e) (refused 5 e) _ (neither (leb t.states (get_or t.from e 0)) _ leaves arrives)
+    (passed (wrong_order t e) (refused 6 e) _ g.order
+    (passed (wrong_mark t u e) (refused 7 e) _ (lt-leb (2 ^ u) (borne t e) g.marks) (fit_edges t u (suc e) k (λ i l b. f i (omega arith) (omega arith)))))
 
 sorted_test : (t : Table) → ((e : ℕ) → suc e < t.edges → get_or t.from e 0 ≤ get_or t.from (suc e) 0) → (e : ℕ) → e < t.edges → wrong_order t e ≡ false
 sorted_test t up zero h = refl
@@ -98,7 +98,7 @@ module _ (n start : ℕ) (from to marks : List ℕ) (c : Acceptance) (needs : Li
   t : Table
   t = lent n start from to marks
 
-  pub sound_fit : refusal (lent n start from to marks) c needs ≡ Sound → Fit (lent n start from to marks) c needs
+  pub sound_fit : refusal (lent n start from to marks) c needs ≡ Ok tt → Fit (lent n start from to marks) c needs
   unfolding t
   sound_fit h =
       let one = cond_sound (wrong_states t) 1 0 _ h in
@@ -127,16 +127,16 @@ module _ (n start : ℕ) (from to marks : List ℕ) (c : Acceptance) (needs : Li
         marks_below = λ e l. (fit e (omega arith) (omega arith)).marks;
       }
 
-  pub fit_sound : Fit (lent n start from to marks) c needs → refusal (lent n start from to marks) c needs ≡ Sound
+  pub fit_sound : Fit (lent n start from to marks) c needs → refusal (lent n start from to marks) c needs ≡ Ok tt
   unfolding t
   fit_sound f =
       let p = f.proper in
-      passed (wrong_states t) (Refused 1 0) _ (neither (eqb n 0) _ (ne_eqb n 0 (λ (z : n ≡ 0). omega (arith, p.some))) (le-ltb most_states n p.few))
-      (passed (wrong_edges t) (Refused 2 0) _
+      passed (wrong_states t) (refused 1 0) _ (neither (eqb n 0) _ (ne_eqb n 0 (λ (z : n ≡ 0). omega (arith, p.some))) (le-ltb most_states n p.few))
+      (passed (wrong_edges t) (refused 2 0) _
       (neither (not (eqb (length from) (length to))) _ (test_same (length from) (length to) (sym p.to_length))
       (neither (not (eqb (length from) (length marks))) _ (test_same (length from) (length marks) (sym p.marks_length)) (le-ltb most_edges (length from) p.few_edges)))
-      (passed (wrong_start t) (Refused 3 0) _ (lt-leb n start p.start_below)
-      (passed (wrong_condition c needs) (Refused 4 0) _ f.condition
+      (passed (wrong_start t) (refused 3 0) _ (lt-leb n start p.start_below)
+      (passed (wrong_condition c needs) (refused 4 0) _ f.condition
       (fit_edges t (used c needs) 0 (length from) (λ i l b. record {
         leaves = p.from_below i (omega arith);
         arrives = p.to_below i (omega arith);

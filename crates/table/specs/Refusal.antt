@@ -1,10 +1,10 @@
 -- Rows 1 to 7 of the rules' table, in the stated order: the first cause, with its number and place. Assumes nothing.
-use Rattle.std.specs.Prelude.{◌≡◌, Bool, false, not, ◌||◌, cond, List, [], ◌∷◌, ℕ, zero, suc, ◌*◌, ◌/◌, ◌^◌, ◌≤◌, ◌<◌, ltb, leb, eqb, length, get_or, drop}
+use Rattle.std.specs.Prelude.{◌≡◌, Bool, false, not, ◌||◌, cond, List, ℕ, zero, suc, ◌*◌, ◌/◌, ◌^◌, ◌≤◌, ◌<◌, ltb, leb, eqb, length, get_or, drop, Result, Ok, Err}
+use Rattle.std.specs.List.{list_any}
 use Rattle.marks.specs.Mark.{width}
 use Rattle.table.specs.declared.Acceptance.{Acceptance}
 use Rattle.table.specs.declared.Acceptance.TheVariants.{Buchi, Streett, Rabin}
-use Rattle.table.specs.declared.Finding.{Finding}
-use Rattle.table.specs.declared.Finding.TheVariants.{Sound, Refused}
+use Rattle.table.specs.declared.Refusal.{Refusal}
 use Rattle.table.specs.Table.{Table, borne}
 use Rattle.table.specs.Condition.{dealt}
 
@@ -27,8 +27,7 @@ most_rabin = 8
 
 -- some number of the list is not 0
 abbrev pub some_need : List ℕ → Bool
-some_need [] = false
-some_need (d ∷ ds) = ltb 0 d || some_need ds
+some_need needs = list_any (λ d. ltb 0 d) needs
 
 -- how many marks the condition uses: they are 0 up to this number less one
 abbrev pub used : Acceptance → List ℕ → ℕ
@@ -72,33 +71,37 @@ wrong_mark t u e = leb (2 ^ u) (borne t e)
 
 -- ---- the first cause
 
+-- why a table is refused, with its number and place
+abbrev pub refused : {A : Type 0} → ℕ → ℕ → Result A Refusal
+refused number place = Err (record { number = number; place = place })
+
 -- among k edges from edge e on: the first faulty edge decides, and 5, 6, 7 in that order within it
-abbrev pub edge_refusal : Table → ℕ → ℕ → ℕ → Finding
-edge_refusal t u e zero = Sound
+abbrev pub edge_refusal : Table → ℕ → ℕ → ℕ → Result Unit Refusal
+edge_refusal t u e zero = Ok tt
 edge_refusal t u e (suc k) =
-    cond (wrong_end t e) (Refused 5 e)
-    (cond (wrong_order t e) (Refused 6 e)
-    (cond (wrong_mark t u e) (Refused 7 e)
+    cond (wrong_end t e) (refused 5 e)
+    (cond (wrong_order t e) (refused 6 e)
+    (cond (wrong_mark t u e) (refused 7 e)
     (edge_refusal t u (suc e) k)))
 
 -- 1, 2, 3, 4; then edges from 0 up
-abbrev pub refusal : Table → Acceptance → List ℕ → Finding
+abbrev pub refusal : Table → Acceptance → List ℕ → Result Unit Refusal
 refusal t c needs =
-    cond (wrong_states t) (Refused 1 0)
-    (cond (wrong_edges t) (Refused 2 0)
-    (cond (wrong_start t) (Refused 3 0)
-    (cond (wrong_condition c needs) (Refused 4 0)
+    cond (wrong_states t) (refused 1 0)
+    (cond (wrong_edges t) (refused 2 0)
+    (cond (wrong_start t) (refused 3 0)
+    (cond (wrong_condition c needs) (refused 4 0)
     (edge_refusal t (used c needs) 0 t.edges))))
 
 -- ---- the rules' number and place for each answer: 0 and 0 where nothing is found (`Door.check_told`, in proofs/, says what they tell)
 
-abbrev pub number_of : Finding → ℕ
-number_of Sound = 0
-number_of (Refused number place) = number
+abbrev pub number_of : Result Unit Refusal → ℕ
+number_of (Ok done) = 0
+number_of (Err cause) = cause.number
 
-abbrev pub place_of : Finding → ℕ
-place_of Sound = 0
-place_of (Refused number place) = place
+abbrev pub place_of : Result Unit Refusal → ℕ
+place_of (Ok done) = 0
+place_of (Err cause) = cause.place
 
 -- ---- what a table that is not refused is (`Sound.sound_fit` and `Sound.fit_sound`, in proofs/: exactly these tables, with a permitted condition and no
 -- mark that it does not use, are found sound)

@@ -15,14 +15,7 @@ fn some_need(p: u32, needs: [u32; 8]) -> bool
     requires { p ≤ most_rabin }
     ensures { result ≡ some_need (drop p needs) }
 {
-    let mut i = p as usize;
-    while i < 8 {
-        if 0 < needs[i] {
-            return true;
-        }
-        i += 1;
-    }
-    false
+    needs.iter().skip(p as usize).any(|need| 0 < *need)
 }
 
 // How many marks are dealt out before pair p.
@@ -30,12 +23,9 @@ fn dealt_before(p: u32, needs: [u32; 8]) -> u64
     requires { p ≤ most_rabin }
     ensures { result ≡ dealt needs p }
 {
-    let end = p as usize;
     let mut sum: u64 = 0;
-    let mut i: usize = 0;
-    while i < end {
-        sum += 1 + needs[i] as u64;
-        i += 1;
+    for need in &needs[..p as usize] {
+        sum += 1 + u64::from(*need);
     }
     sum
 }
@@ -44,13 +34,7 @@ fn dealt_before(p: u32, needs: [u32; 8]) -> u64
 fn wrong_rabin(p: u32, needs: [u32; 8]) -> bool
     ensures { result ≡ wrong_condition (Acceptance.Rabin p) needs }
 {
-    if MOST_RABIN < p {
-        return true;
-    }
-    if some_need(p, needs) {
-        return true;
-    }
-    (WIDTH as u64) < dealt_before(p, needs)
+    MOST_RABIN < p || some_need(p, needs) || u64::from(WIDTH) < dealt_before(p, needs)
 }
 
 // Row 4.

@@ -1,12 +1,12 @@
 // Rows 5 to 7. A sound table is passed by one look over all edges, which stops nowhere; only where that shows a fault are
 // the edges gone through one by one for the first. The start plays no part in these rows: the contracts speak of the
 // table with start 0.
-ghost use Rattle.std.specs.Prelude.{◌≡◌, true, ◌≤◌, length};
+ghost use Rattle.std.specs.Prelude.{◌≡◌, true, ◌≤◌, length, Ok};
 ghost use Rattle.table.specs.Table.{Table, lent};
-ghost use Rattle.table.specs.Refusal.{edge_refusal, most_edges};
+ghost use Rattle.table.specs.Refusal.{refused, edge_refusal, most_edges};
 ghost use Rattle.table.specs.inner.Looks.{Even, Above, Shows};
 
-use crate::Finding;
+use crate::Refusal;
 
 // What a look over all edges shows: how many arrive above a state, the state that the last one leaves, the union of their marks,
 // and how many from states are below the one before.
@@ -22,7 +22,7 @@ struct Look {
 fn above(a: u32, b: u32) -> u32
     ensures { Above a b result }
 {
-    if b < a { 1 } else { 0 }
+    u32::from(b < a)
 }
 
 // A look over all edges. Those that arrive above a state are counted, as counting takes fewer instructions than the highest end.
@@ -34,14 +34,12 @@ fn look_over(top: u32, from: &[u32], to: &[u32], marks: &[u32]) -> Look
     let mut last: u32 = 0;
     let mut union: u32 = 0;
     let mut falls: u32 = 0;
-    let mut e: usize = 0;
-    while e < from.len() {
+    for e in 0..from.len() {
         let leaves = from[e];
         astray += above(to[e], top);
         union = marks::join(union, marks[e]);
         falls += above(last, leaves);
         last = leaves;
-        e += 1;
     }
     Look {
         astray,
@@ -54,49 +52,39 @@ fn look_over(top: u32, from: &[u32], to: &[u32], marks: &[u32]) -> Look
 // Whether a look over all edges shows that none is faulty.
 fn all_sound(n: u32, from: &[u32], to: &[u32], marks: &[u32], used: u32) -> bool
     requires { let t = lent n 0 from.now to.now marks.now in Even t.from t.to t.marks }
-    ensures { let t = lent n 0 from.now to.now marks.now in result ≡ true → edge_refusal t used 0 t.edges ≡ Finding.Sound }
+    ensures { let t = lent n 0 from.now to.now marks.now in result ≡ true → edge_refusal t used 0 t.edges ≡ Ok tt }
 {
     if n == 0 {
         return false;
     }
     let look = look_over(n - 1, from, to, marks);
-    if 0 < look.falls {
-        return false;
-    }
-    if 0 < look.astray {
-        return false;
-    }
-    if n <= look.last {
-        return false;
-    }
-    marks::covers(marks::first_marks(used), look.union)
+    look.falls == 0
+        && look.astray == 0
+        && look.last < n
+        && marks::covers(marks::first_marks(used), look.union)
 }
 
 // A refusal at an edge.
-fn refused_at(number: u32, e: usize) -> Finding
+fn refused_at(number: u32, e: usize) -> Result<(), Refusal>
     requires { e ≤ most_edges }
-    ensures { result ≡ Finding.Refused number e }
+    ensures { result ≡ refused number e }
 {
-    Finding::Refused {
+    Err(Refusal {
         number,
         place: e as u32,
-    }
+    })
 }
 
 // The first faulty edge decides, and 5, 6, 7 in that order within it.
-fn first_fault(n: u32, from: &[u32], to: &[u32], marks: &[u32], used: u32) -> Finding
+fn first_fault(n: u32, from: &[u32], to: &[u32], marks: &[u32], used: u32) -> Result<(), Refusal>
     requires { let t = lent n 0 from.now to.now marks.now in Even t.from t.to t.marks }
     ensures { let t = lent n 0 from.now to.now marks.now in result ≡ edge_refusal t used 0 t.edges }
 {
     let allowed = marks::first_marks(used);
     let mut before: u32 = 0;
-    let mut e: usize = 0;
-    while e < from.len() {
+    for e in 0..from.len() {
         let leaves = from[e];
-        if n <= leaves {
-            return refused_at(5, e);
-        }
-        if n <= to[e] {
+        if n <= leaves || n <= to[e] {
             return refused_at(5, e);
         }
         if leaves < before {
@@ -106,18 +94,24 @@ fn first_fault(n: u32, from: &[u32], to: &[u32], marks: &[u32], used: u32) -> Fi
             return refused_at(7, e);
         }
         before = leaves;
-        e += 1;
     }
-    Finding::Sound
+    Ok(())
 }
 
 // Rows 5 to 7.
-pub(crate) fn check_edges(n: u32, from: &[u32], to: &[u32], marks: &[u32], used: u32) -> Finding
+pub(crate) fn check_edges(
+    n: u32,
+    from: &[u32],
+    to: &[u32],
+    marks: &[u32],
+    used: u32,
+) -> Result<(), Refusal>
     requires { let t = lent n 0 from.now to.now marks.now in Even t.from t.to t.marks }
     ensures { let t = lent n 0 from.now to.now marks.now in result ≡ edge_refusal t used 0 t.edges }
 {
     if all_sound(n, from, to, marks, used) {
-        return Finding::Sound;
+        Ok(())
+    } else {
+        first_fault(n, from, to, marks, used)
     }
-    first_fault(n, from, to, marks, used)
 }

@@ -8,7 +8,7 @@ pub mod row;
 
 ghost use Rattle.std.specs.Prelude.{◌≡◌, cond};
 ghost use Rattle.table.specs.Table.{lent};
-ghost use Rattle.table.specs.Refusal.{refusal, used, wrong_condition};
+ghost use Rattle.table.specs.Refusal.{refused, refusal, used, wrong_condition};
 
 pub const MOST_STATES: u32 = 4096;
 
@@ -25,11 +25,11 @@ pub enum Acceptance {
     Rabin(u32),
 }
 
-// What the check of rows 1 to 7 finds: nothing, or the number and the place of the first cause.
+// The first cause to refuse: the number of its row and its place.
 #[derive(Clone, Copy)]
-pub enum Finding {
-    Sound,
-    Refused { number: u32, place: u32 },
+pub struct Refusal {
+    pub number: u32,
+    pub place: u32,
 }
 
 // What the judge says: a run with the lengths of its prefix and cycle and, for Rabin, the pair (0 for other kinds);
@@ -49,10 +49,10 @@ pub struct Answer {
 }
 
 // A refusal that is no edge's.
-fn refused(number: u32) -> Finding
-    ensures { result ≡ Finding.Refused number 0 }
+fn refused(number: u32) -> Result<(), Refusal>
+    ensures { result ≡ refused number 0 }
 {
-    Finding::Refused { number, place: 0 }
+    Err(Refusal { number, place: 0 })
 }
 
 // Rows 1 to 7: the number and place of the first cause in the stated order, or that there is none.
@@ -64,22 +64,13 @@ pub fn check(
     marks: &[u32],
     condition: Acceptance,
     needs: [u32; 8],
-) -> Finding
+) -> Result<(), Refusal>
     ensures { result ≡ refusal (lent n start from.now to.now marks.now) condition needs }
 {
-    if n == 0 {
+    if n == 0 || MOST_STATES < n {
         return refused(1);
     }
-    if MOST_STATES < n {
-        return refused(1);
-    }
-    if from.len() != to.len() {
-        return refused(2);
-    }
-    if from.len() != marks.len() {
-        return refused(2);
-    }
-    if MOST_EDGES < from.len() {
+    if from.len() != to.len() || from.len() != marks.len() || MOST_EDGES < from.len() {
         return refused(2);
     }
     if n <= start {

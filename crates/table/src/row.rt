@@ -7,12 +7,10 @@ ghost use Rattle.table.specs.Row.{run};
 pub fn run(part: &[u32], state: u32) -> usize
     ensures { result ≡ run state part.now }
 {
-    let mut i: usize = 0;
-    while i < part.len() {
-        if part[i] != state {
+    for (i, leaves) in part.iter().enumerate() {
+        if *leaves != state {
             return i;
         }
-        i += 1;
     }
-    i
+    part.len()
 }

@@ -1,47 +1,28 @@
 // Standard input as a text, and what the programs that read it share. Each hands the text on to a function on bytes, and writes what that makes of it.
 #![tactic(auto)]
 
-ghost use Rattle.std.specs.Prelude.{◌≤◌, ◌-◌, ◌≡◌, length, take, drop};
-ghost use Rattle.text_input.specs.Input.{Gave, Reads, Within};
+ghost use Rattle.std.specs.Prelude.{◌≡◌, ◌≤◌, ◌<◌, ◌^◌, ℕ, List, length};
+ghost use Rattle.text_input.specs.Input.{Reads, Within};
+ghost use Rattle.text_input.specs.Served.{Served, Wrote};
 
 use std::io;
-use std::io::Read;
+use std::io::{Read, Write};
 use std::process::ExitCode;
 
-// What reading comes to: so many bytes, none at the end of the input; or a read that failed, and why.
-#[derive(Drop)]
-pub enum Input {
-    Bytes { count: usize },
-    Failed { reason: io::Error },
-}
-
-// One read, into the text from `at` on: what stands before stays.
-fn read_more<R: Read>(from: &mut R, text: &mut [u8], at: usize) -> Input
-    requires { at ≤ length text.old }
-    ensures within { Within (length text.old - at) result }
-    ensures text_unchanged { take at text.new ≡ take at text.old }
-    ensures bytes { Gave (R.remaining from.old) (R.remaining from.new) result (drop at text.new) }
-{
-    match from.read(&mut text[at..]) {
-        Ok(count) => Input::Bytes { count },
-        Err(reason) => Input::Failed { reason },
-    }
-}
-
-// Reads until the text is full or the input ends.
-pub fn read_input<R: Read>(from: &mut R, text: &mut [u8]) -> Input
+// Reads until the text is full or the input ends: how many bytes were read, or why a read failed.
+pub fn read_input<R: Read>(from: &mut R, text: &mut [u8]) -> io::Result<usize>
     ensures within { Within (length text.old) result }
     ensures bytes { Reads (R.remaining from.old) (R.remaining from.new) result text.new }
 {
     let mut at: usize = 0;
     while at < text.len() {
-        match read_more(from, text, at) {
-            Input::Bytes { count: 0 } => return Input::Bytes { count: at },
-            Input::Bytes { count } => at += count,
-            failed => return failed,
+        let count = from.read(&mut text[at..])?;
+        if count == 0 {
+            break;
         }
+        at += count;
     }
-    Input::Bytes { count: at }
+    Ok(at)
 }
 
 // Says in a line on standard error what failed and why; the status of a program that did not do its work.
@@ -50,4 +31,55 @@ pub fn fail(rt: &impl Eprint, what: &str, reason: io::Error) -> ExitCode
 {
     let _ = eprintln!(rt; "{what}: {reason}");
     ExitCode::FAILURE
+}
+
+// What a program writes for a text that it reads: a reply to every text, of at most ROOM bytes.
+pub trait Program<const ROOM: usize> {
+    // Whether the reply to a text may be what stands at the beginning of a buffer, up to a size.
+    ghost Reply: { List ℕ → List ℕ → ℕ → Type 0 };
+
+    // What is told where the text cannot be read ..
+    const UNREAD: &'static str;
+
+    // .. and where the reply cannot be written.
+    const UNWRITTEN: &'static str;
+
+    fn reply(text: &[u8], out: &mut [u8; ROOM]) -> usize
+        ensures within { result ≤ ROOM }
+        ensures says { Reply text.now out.new result };
+}
+
+// Reads a text of at most MOST bytes and writes the program's reply to it; what fails is told, and gives a status that is not 0.
+pub fn serve<P: Program<ROOM>, const MOST: usize, const ROOM: usize, E: Eprint, R: Read, W: Write>(
+    rt: &E,
+    input: &mut R,
+    output: &mut W,
+) -> ExitCode
+    requires most { MOST < 2 ^ 63 }
+    requires room { ROOM < 2 ^ 63 }
+    ensures { result ≡ ExitCode.SUCCESS → Served MOST P.Reply (R.remaining input.old) (R.remaining input.new)
+        (W.contents output.old) (W.contents output.new) }
+{
+    let mut text = [0u8; MOST];
+    match read_input(input, &mut text) {
+        Ok(count) => answer::<P, ROOM, E, W>(rt, output, &text[..count]),
+        Err(reason) => fail(rt, P::UNREAD, reason),
+    }
+}
+
+// Writes the program's reply to a text.
+fn answer<P: Program<ROOM>, const ROOM: usize, E: Eprint, W: Write>(
+    rt: &E,
+    output: &mut W,
+    text: &[u8],
+) -> ExitCode
+    requires { ROOM < 2 ^ 63 }
+    ensures { result ≡ ExitCode.SUCCESS → Wrote (P.Reply text.now) (W.contents output.old) (W.contents output.new) }
+{
+    let mut out = [0u8; ROOM];
+    let size = P::reply(text, &mut out);
+    match output.write_all(&out[..size]) {
+        Ok(()) => ExitCode::SUCCESS,
+        Err(reason) => fail(rt, P::UNWRITTEN, reason),
+    }
 }

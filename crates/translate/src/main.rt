@@ -5,25 +5,28 @@
 
 ghost use Rattle.std.specs.Prelude.{◌≡◌};
 ghost use Rattle.translate_text.specs.Turned.{Turned};
-ghost use Rattle.text_input.specs.Served.{Served, Wrote};
+ghost use Rattle.text_input.specs.Served.{Served};
 
 use std::io::{Read, Write};
 use std::process::ExitCode;
-use text_input::{Input, fail, read_input};
+use text_input::Program;
 use translate_text::{MOST_WRITTEN, translate_text};
 
 // One byte more than a text may have: with so many it is refused whatever follows, and nothing more is read.
 const MOST_READ: usize = 12289;
 
-// Translates a text and writes what it gives.
-fn answer<W: Write>(rt: &impl Eprint, output: &mut W, text: &[u8]) -> ExitCode
-    ensures { result ≡ ExitCode.SUCCESS → Wrote (Turned text.now) (W.contents output.old) (W.contents output.new) }
-{
-    let mut out = [0u8; MOST_WRITTEN];
-    let size = translate_text(text, &mut out);
-    match output.write_all(&out[0..size]) {
-        Ok(()) => ExitCode::SUCCESS,
-        Err(reason) => fail(rt, "translate: the text could not be written", reason),
+// A job text, translated.
+struct Translate;
+
+impl Program<MOST_WRITTEN> for Translate {
+    ghost Reply = { Turned };
+
+    const UNREAD: &'static str = "translate: the job could not be read";
+
+    const UNWRITTEN: &'static str = "translate: the text could not be written";
+
+    fn reply(text: &[u8], out: &mut [u8; MOST_WRITTEN]) -> usize {
+        translate_text(text, out)
     }
 }
 
@@ -32,11 +35,7 @@ fn serve<R: Read, W: Write>(rt: &impl Eprint, input: &mut R, output: &mut W) -> 
     ensures { result ≡ ExitCode.SUCCESS → Served MOST_READ Turned (R.remaining input.old) (R.remaining input.new)
         (W.contents output.old) (W.contents output.new) }
 {
-    let mut text = [0u8; MOST_READ];
-    match read_input(input, &mut text) {
-        Input::Bytes { count } => answer(rt, output, &text[0..count]),
-        Input::Failed { reason } => fail(rt, "translate: the job could not be read", reason),
-    }
+    text_input::serve::<Translate, MOST_READ, MOST_WRITTEN, _, R, W>(rt, input, output)
 }
 
 fn main(rt: HostRuntime) -> ExitCode {

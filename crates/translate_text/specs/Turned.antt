@@ -1,12 +1,11 @@
 -- From bytes to bytes: what a job text is translated into, every text (docs/RULES.md, "One-mark translation" and "The job text and the printed answer", the
 -- writer). Assumes nothing.
-use Rattle.std.specs.Prelude.{cond, List, [], ℕ}
+use Rattle.table.specs.declared.Refusal.{Refusal}
+use Rattle.std.specs.Prelude.{cond, List, [], ℕ, Result, Ok, Err}
 use Rattle.table.specs.declared.Acceptance.{Acceptance}
 use Rattle.table.specs.declared.Acceptance.TheVariants.{Buchi, Streett, Rabin}
-use Rattle.table.specs.declared.Finding.{Finding}
-use Rattle.table.specs.declared.Finding.TheVariants.{Sound, Refused}
 use Rattle.table.specs.Table.{Table}
-use Rattle.table.specs.Refusal.{refusal}
+use Rattle.table.specs.Refusal.{refusal, refused}
 use Rattle.climbing.specs.Translated.{translated}
 use Rattle.one_mark.specs.Outcome.{large}
 use Rattle.job_text.specs.Job.{Outcome, job, fault, read_job, Column}
@@ -17,16 +16,16 @@ use Rattle.job_writer.specs.Written.{job_text}
 use Rattle.job_writer.specs.Writing.{most_bytes, too_large}
 
 -- rows 1 to 7 under Büchi k; then 10; then 23 at 0 if the translated table has above 256 states or 512 edges. Row 11 never comes out: what is lent is enough
-abbrev pub cause : Table → ℕ → Finding
+abbrev pub cause : Table → ℕ → Result Unit Refusal
 cause t k =
     or_else (refusal t (Buchi k) [])
-    (cond (large (translated t k).states (translated t k).edges) (Refused 10 0)
-    (cond (too_large (translated t k)) (Refused 23 0) Sound))
+    (cond (large (translated t k).states (translated t k).edges) (refused 10 0)
+    (cond (too_large (translated t k)) (refused 23 0) (Ok tt)))
 
 -- the text, or "the lines of the refusal", with column 0
-abbrev pub told_or : Finding → List ℕ → List ℕ
-told_or Sound text = text
-told_or (Refused number place) text = refused_text number place 0
+abbrev pub told_or : Result Unit Refusal → List ℕ → List ℕ
+told_or (Ok done) text = text
+told_or (Err cause) text = refused_text cause.number cause.place 0
 
 -- a table with k marks: the job text of the translated one
 abbrev pub turned_table : Table → ℕ → List ℕ

@@ -10,12 +10,11 @@ ghost use Rattle.job_writer.specs.Writing.{most_bytes};
 ghost use Rattle.translate_text.specs.Turned.{turned_table, Turned};
 ghost use Rattle.translate_text.specs.inner.{written_table};
 
-use answer_text::{Printed, print_refused};
+use answer_text::print_refused;
 use job_text::reader::read;
 use job_writer::write_job;
-use one_mark::{Translation, translate};
-use table::{Acceptance, Finding};
-use writing::Written;
+use one_mark::translate;
+use table::Acceptance;
 
 // No text that is written is longer: 256 states, 512 edges.
 pub const MOST_WRITTEN: usize = 11336;
@@ -28,12 +27,9 @@ fn tell_refused(number: u32, place: u32, column: u32, out: &mut [u8; MOST_WRITTE
     ensures { Stands most_bytes (refused_text number place column) out.new result }
 {
     match print_refused(number, place, column, out) {
-        Printed::Text { length } => length,
+        Ok(length) => length,
         // never: they fit
-        Printed::Refused {
-            number: _,
-            place: _,
-        } => 0,
+        Err(_) => 0,
     }
 }
 
@@ -49,8 +45,8 @@ fn write_made(
     ensures { Stands most_bytes (written_table (lent n start from.now to.now marks.now)) out.new result }
 {
     match write_job(n, start, from, to, marks, out) {
-        Written::Text { length } => length,
-        Written::Refused { number, place } => tell_refused(number, place, 0, out),
+        Ok(length) => length,
+        Err(cause) => tell_refused(cause.number, cause.place, 0, out),
     }
 }
 
@@ -69,7 +65,7 @@ fn translate_table(
     let mut leaves = [0u32; MOST_MADE];
     let mut arrives = [0u32; MOST_MADE];
     let mut bears = [0u32; MOST_MADE];
-    let translation = translate(
+    match translate(
         n,
         start,
         from,
@@ -79,18 +75,13 @@ fn translate_table(
         &mut leaves,
         &mut arrives,
         &mut bears,
-    );
-    match translation {
-        Translation::Refused { number, place } => tell_refused(number, place, 0, out),
-        Translation::Made {
-            states,
-            edges,
-            start: first,
-        } => {
-            let m = edges as usize;
+    ) {
+        Err(cause) => tell_refused(cause.number, cause.place, 0, out),
+        Ok(made) => {
+            let m = made.edges as usize;
             write_made(
-                states,
-                first,
+                made.states,
+                made.start,
                 &leaves[0..m],
                 &arrives[0..m],
                 &bears[0..m],
@@ -108,13 +99,11 @@ pub fn translate_text(text: &[u8], out: &mut [u8; MOST_WRITTEN]) -> usize
     let mut to = [0u32; 512];
     let mut marks = [0u32; 512];
     let job = read(text, &mut from, &mut to, &mut marks);
-    let finding = job.finding;
-    if let Finding::Refused { number, place } = finding {
-        return tell_refused(number, place, job.column, out);
+    if let Err(cause) = job.finding {
+        return tell_refused(cause.number, cause.place, job.column, out);
     }
     let m = job.edges as usize;
-    let condition = job.condition;
-    match condition {
+    match job.condition {
         Acceptance::Buchi(k) => translate_table(
             job.states,
             job.start,
@@ -124,7 +113,6 @@ pub fn translate_text(text: &[u8], out: &mut [u8; MOST_WRITTEN]) -> usize
             k,
             out,
         ),
-        Acceptance::Streett(_) => tell_refused(4, 0, 0, out),
-        Acceptance::Rabin(_) => tell_refused(4, 0, 0, out),
+        Acceptance::Streett(_) | Acceptance::Rabin(_) => tell_refused(4, 0, 0, out),
     }
 }

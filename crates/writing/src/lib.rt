@@ -1,9 +1,3 @@
-// What a writer of a text gives. Relies on the crate `table` for rows 1 to 7. Which refusal comes first, and what the lent buffer holds, is in specs/Writing.antt.
-// What writing gives: the text's length, or the number and the place of the first cause to refuse.
+// What a writer of a text gives: its length, or the number and the place of the first cause to refuse. Relies on the crate `table` for rows 1 to 7.
+// Which refusal comes first, and what the lent buffer holds, is in specs/Writing.antt.
 #![tactic(auto)]
-
-#[derive(Clone, Copy)]
-pub enum Written {
-    Text { length: usize },
-    Refused { number: u32, place: u32 },
-}

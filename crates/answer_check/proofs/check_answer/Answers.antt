@@ -3,8 +3,8 @@ use Rattle.job_text.proofs.Tables.{froms_reach, tos_reach, sets_reach}
 use Rattle.answer_check.proofs.Telling.{refused_so, checked_so}
 use Rattle.answer_check.proofs.check_answer.Goals as goal
 
-pub returns-in-Refused : goal.returns-in-Refused
-returns-in-Refused c = refused_so c.read-read.ensures c.args.answer.now c.in-Refused.is
+pub returns-in-Err : goal.returns-in-Err
+returns-in-Err c = refused_so c.read-read.ensures c.args.answer.now c.in-Err.is
 
 pub slice_bounds-check_table-end : goal.slice_bounds-check_table-end
 slice_bounds-check_table-end c = froms_reach c.read-read.ensures

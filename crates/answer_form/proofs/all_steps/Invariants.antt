@@ -1,3 +1,4 @@
+-- The fields from `at` on decide (`Decides`); the measure is what is left of the bytes. Assumes nothing.
 use Prim.Native.Nat.{◌+◌, ◌-◌}
 use lib.ListN.{length}
 use Rattle.answer_form.proofs.Forms.{Decides}

@@ -1,13 +1,7 @@
 -- `print_told` meets its contract: writing into no cells gives the text's length, and where the buffer is long enough the text is written
 -- and zeros after it (`printed_whole`). Assumes nothing.
-use Rattle.answer_text.proofs.Prints.{printed_short, printed_whole}
+use Rattle.answer_text.proofs.Prints.{printed_whole}
 use Rattle.answer_text.proofs.print_told.Goals as goal
-
-pub returns-then-out-length : goal.returns-then-out-length
-returns-then-out-length c =
-    let out = c.args.out.now in
-    let p = c.put_answer-length in
-    printed_short _ out p.new.out p.result p.auto.out p.ensures.next c.if-out-length.true
 
 pub returns : goal.returns
 returns c =

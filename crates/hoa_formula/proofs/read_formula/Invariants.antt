@@ -1,3 +1,4 @@
+-- What `read_formula` has read so far leaves the rest of the run as it is, and what is left of the text gets shorter. Assumes nothing.
 use Prim.Native.Nat.{◌-◌}
 use lib.ListN.{length}
 use Rattle.hoa_formula.proofs.Readings.{Reading}

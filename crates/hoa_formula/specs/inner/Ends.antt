@@ -1,5 +1,5 @@
 -- Where the formula is over, as the reader tells it (src/lib.rt). Assumes nothing.
-use Rattle.std.specs.Prelude.{Bool, true, false, cond, List, ℕ, zero, suc, ◌/◌, ltb}
+use Rattle.std.specs.Prelude.{Bool, true, false, cond, List, ℕ, zero, suc, ◌/◌, ltb, Option, Some, None}
 use Rattle.table.specs.declared.Acceptance.{Acceptance}
 use Rattle.table.specs.declared.Acceptance.TheVariants as acceptance
 use Rattle.hoa_tokens.specs.declared.Kind.{Kind}
@@ -13,9 +13,8 @@ use Rattle.hoa_turn.specs.declared.step.Stage.TheVariants as stage_is
 use Rattle.hoa_turn.specs.declared.needs.Needs.{Needs}
 use Rattle.hoa_formula.specs.declared.Complete.{Complete}
 use Rattle.hoa_formula.specs.declared.Complete.TheVariants as complete_is
-use Rattle.hoa_formula.specs.declared.FormulaFound.{FormulaFound}
-use Rattle.hoa_formula.specs.declared.FormulaFound.TheVariants as found_is
 use Rattle.hoa_formula.specs.declared.FormulaRead.{FormulaRead}
+use Rattle.hoa_formula.specs.declared.FormulaRead.TheVariants as found_is
 use Rattle.hoa_standard.specs.Standard.{FormulaMeaning, standard, short, no_needs, rabin_meaning}
 use Rattle.hoa_standard.specs.Formulas.{word_piece, sign_piece}
 
@@ -34,63 +33,64 @@ kind_piece kind_is.Finish = piece_is.Foreign
 kind_piece kind_is.Bad = piece_is.Foreign
 
 -- with no open bracket
-abbrev pub if_none : ℕ → Complete → Complete
-if_none zero k = k
-if_none (suc d) k = complete_is.None
+abbrev pub if_none : ℕ → Complete → Option Complete
+if_none zero k = Some k
+if_none (suc d) k = None
 
-abbrev pub pair_complete : ℕ → ℕ → Complete
+abbrev pub pair_complete : ℕ → ℕ → Option Complete
 pair_complete m zero = if_none m complete_is.Rabin
-pair_complete m (suc d) = complete_is.None
+pair_complete m (suc d) = None
 
-abbrev pub truth_complete : Bool → ℕ → Complete
+abbrev pub truth_complete : Bool → ℕ → Option Complete
 truth_complete true d = if_none d complete_is.True
 truth_complete false d = if_none d complete_is.False
 
 -- the kind of formula that is complete
-abbrev pub complete_to : Past → Complete
-complete_to past_kinds.Lost = complete_is.None
+abbrev pub complete_to : Past → Option Complete
+complete_to past_kinds.Lost = None
 complete_to (past_kinds.Truth b d) = truth_complete b d
 complete_to (past_kinds.Buchi d) = if_none d complete_is.Buchi
 complete_to (past_kinds.FirstFin d) = if_none d complete_is.Rabin
 complete_to (past_kinds.RabinPair m b d) = pair_complete m d
 complete_to (past_kinds.RabinGroup m) = if_none m complete_is.Rabin
-complete_to (past_kinds.StreettFin m u) = complete_is.None
-complete_to (past_kinds.StreettInf m v) = complete_is.None
+complete_to (past_kinds.StreettFin m u) = None
+complete_to (past_kinds.StreettInf m v) = None
 complete_to (past_kinds.StreettPair m) = if_none m complete_is.Streett
 complete_to (past_kinds.Bare x) = if_none x complete_is.Streett
 
 -- what it means
-abbrev pub complete_meaning : ℕ → List ℕ → Complete → FormulaMeaning
-complete_meaning c ns complete_is.Buchi = standard (acceptance.Buchi c) no_needs
-complete_meaning c ns complete_is.Rabin = rabin_meaning ns
-complete_meaning c ns complete_is.Streett = standard (acceptance.Streett (c / 2)) no_needs
-complete_meaning c ns complete_is.True = standard (acceptance.Buchi 0) no_needs
-complete_meaning c ns complete_is.False = standard (acceptance.Rabin 0) no_needs
-complete_meaning c ns complete_is.None = short
-
-abbrev pub found : FormulaFound → List ℕ → FormulaRead
-found f xs = record { found = f; needs = xs }
+abbrev pub complete_meaning : ℕ → List ℕ → Option Complete → FormulaMeaning
+complete_meaning c ns (Some complete_is.Buchi) = standard (acceptance.Buchi c) no_needs
+complete_meaning c ns (Some complete_is.Rabin) = rabin_meaning ns
+complete_meaning c ns (Some complete_is.Streett) = standard (acceptance.Streett (c / 2)) no_needs
+complete_meaning c ns (Some complete_is.True) = standard (acceptance.Buchi 0) no_needs
+complete_meaning c ns (Some complete_is.False) = standard (acceptance.Rabin 0) no_needs
+complete_meaning c ns None = short
 
 -- a standard formula that needs nothing
 abbrev pub standard_read : Acceptance → ℕ → FormulaRead
-standard_read a at = found (found_is.Standard a at) no_needs
+standard_read a at = found_is.Standard a no_needs at
 
--- the reader's answer where the formula is over
+-- the reader's answer for a complete formula
 abbrev pub complete_read : ℕ → Needs → ℕ → Complete → FormulaRead
-complete_read c n at complete_is.Buchi = found (found_is.Standard (acceptance.Buchi c) at) no_needs
-complete_read c n at complete_is.Rabin = found (found_is.Standard (acceptance.Rabin n.pairs) at) n.needs
-complete_read c n at complete_is.Streett = found (found_is.Standard (acceptance.Streett (c / 2)) at) no_needs
-complete_read c n at complete_is.True = found (found_is.Standard (acceptance.Buchi 0) at) no_needs
-complete_read c n at complete_is.False = found (found_is.Standard (acceptance.Rabin 0) at) no_needs
-complete_read c n at complete_is.None = found (found_is.Short at) no_needs
+complete_read c n at complete_is.Buchi = standard_read (acceptance.Buchi c) at
+complete_read c n at complete_is.Rabin = found_is.Standard (acceptance.Rabin n.pairs) n.needs at
+complete_read c n at complete_is.Streett = standard_read (acceptance.Streett (c / 2)) at
+complete_read c n at complete_is.True = standard_read (acceptance.Buchi 0) at
+complete_read c n at complete_is.False = standard_read (acceptance.Rabin 0) at
+
+-- and where none is complete
+abbrev pub done_read : ℕ → Needs → ℕ → Option Complete → FormulaRead
+done_read c n at (Some k) = complete_read c n at k
+done_read c n at None = found_is.Short at
 
 abbrev pub past_read : ℕ → ℕ → Needs → ℕ → Past → FormulaRead
-past_read c atoms n at p = cond (ltb atoms c) (found (found_is.Short at) no_needs) (complete_read c n at (complete_to p))
+past_read c atoms n at p = cond (ltb atoms c) (found_is.Short at) (done_read c n at (complete_to p))
 
 -- it is over only behind an operand
 abbrev pub over_read : ℕ → ℕ → Needs → ℕ → Stage → FormulaRead
-over_read c atoms n at (stage_is.Operand a) = found (found_is.Short at) no_needs
-over_read c atoms n at (stage_is.Named b) = found (found_is.Short at) no_needs
-over_read c atoms n at (stage_is.Bracket b) = found (found_is.Short at) no_needs
-over_read c atoms n at (stage_is.Number b) = found (found_is.Short at) no_needs
+over_read c atoms n at (stage_is.Operand a) = found_is.Short at
+over_read c atoms n at (stage_is.Named b) = found_is.Short at
+over_read c atoms n at (stage_is.Bracket b) = found_is.Short at
+over_read c atoms n at (stage_is.Number b) = found_is.Short at
 over_read c atoms n at (stage_is.After p) = past_read c atoms n at p

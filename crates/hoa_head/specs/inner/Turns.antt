@@ -1,82 +1,67 @@
 -- Where reading goes on behind an item of the header, or the refusal: what the machine says from there on. Assumes nothing.
-use Rattle.std.specs.Prelude.{◌≡◌, Bool, false, cond, not, ◌||◌, List, ℕ, ◌≤◌, length}
+use Rattle.std.specs.Prelude.{◌≡◌, Bool, false, cond, not, ◌||◌, Result, Ok, Err, List, ℕ, ◌+◌, ◌≤◌, length}
+use Rattle.hoa_tokens.specs.declared.BadToken.{BadToken}
 use Rattle.hoa_tokens.specs.declared.Header.{Header}
 use Rattle.hoa_tokens.specs.declared.Header.TheVariants as header_is
 use Rattle.hoa_tokens.specs.Stream.{tokens_at}
-use Rattle.hoa_step.specs.declared.Given.{Given}
 use Rattle.hoa_step.specs.Given.{is_given}
 use Rattle.hoa_step.specs.Machine.{End, done_at, wrong_at, end_by, run}
 use Rattle.hoa_value.specs.declared.Head.{Head}
-use Rattle.hoa_value.specs.declared.hint.Passed.{Passed}
-use Rattle.hoa_value.specs.declared.hint.Passed.TheVariants as passed
-use Rattle.hoa_head.specs.declared.item.Turn.{Turn}
-use Rattle.hoa_head.specs.declared.item.Turn.TheVariants as turn
-use Rattle.hoa_head.specs.declared.item.HeadTurn.{HeadTurn}
 use Rattle.hoa_head.specs.declared.HeadRead.{HeadRead}
-use Rattle.hoa_head.specs.declared.HeadEnd.TheVariants as head_endings
+use Rattle.hoa_head.specs.declared.item.HeadTurn.{HeadTurn}
+use Rattle.hoa_head.specs.declared.item.HeadTurn.TheVariants as turn
 use Rattle.hoa_value.specs.Head.{blank}
 use Rattle.hoa_value.specs.Heading.{HeadState, items, head_step, on_item}
 use Rattle.hoa_head.specs.Headed.{Ends}
 
 -- ---- behind an item
 
--- the next item, the text behind `--BODY--`, or the refusal
-abbrev pub turn_end : List ℕ → Head → Turn → End Head
-turn_end text h (turn.Go next) = run head_step (tokens_at text next) (items h)
-turn_end text h (turn.Done next) = done_at h (tokens_at text next)
-turn_end text h (turn.Refused n p) = wrong_at n p
+-- the next item, or the refusal
+abbrev pub item_end : List ℕ → Result HeadRead BadToken → End Head
+item_end text (Ok r) = run head_step (tokens_at text r.next) (items r.head)
+item_end text (Err bad) = wrong_at bad.number bad.place
 
 -- all of it in the text, from here on
-abbrev pub TurnIn : List ℕ → ℕ → Turn → Type 0
-TurnIn text low (turn.Go next) = (low ≤ next) × (next ≤ length text)
-TurnIn text low (turn.Done next) = next ≤ length text
-TurnIn text low (turn.Refused n p) = p ≤ length text
-
--- a header with these numbers
-abbrev pub with_numbers : Head → Given → Given → Given → Given → Head
-with_numbers h states start props marks =
-    record {
-      states = states;
-      start = start;
-      props = props;
-      marks = marks;
-      hint = h.hint;
-      tool = h.tool;
-      name = h.name;
-      condition = h.condition;
-      needs = h.needs;
-    }
-
--- a refusal, with the header so far
-abbrev pub refused_turn : ℕ → ℕ → Head → HeadTurn
-refused_turn n p h = record { turn = turn.Refused n p; head = h }
-
--- behind a part without a value
-abbrev pub passed_turn : Passed → Head → HeadTurn
-passed_turn (passed.Behind next) h = record { turn = turn.Go next; head = h }
-passed_turn (passed.Refused n p) h = refused_turn n p h
-
--- behind `--BODY--`, which stands at p
-abbrev pub body_turn : ℕ → ℕ → Head → HeadTurn
-body_turn p q h = cond (not (is_given h.start) || not (is_given h.marks)) (refused_turn 41 p h) (record { turn = turn.Done q; head = h })
+abbrev pub ItemIn : List ℕ → ℕ → Result HeadRead BadToken → Type 0
+ItemIn text low (Ok r) = (low ≤ r.next) × (r.next ≤ length text)
+ItemIn text low (Err bad) = bad.place ≤ length text
 
 -- what the machine says of the tokens from `at` on
-pub record Turned (text : List ℕ) (at low : ℕ) (s : HeadState) (r : HeadTurn) : Type 0 where
-  pub says : run head_step (tokens_at text at) s ≡ turn_end text r.head r.turn
-  pub stays : TurnIn text low r.turn
+pub record Turned (text : List ℕ) (at : ℕ) (s : HeadState) (r : Result HeadRead BadToken) : Type 0 where
+  pub says : run head_step (tokens_at text at) s ≡ item_end text r
+  pub stays : ItemIn text at r
 
 -- what it says behind the header of an item, which stands at p
-pub record Opened (text : List ℕ) (p q : ℕ) (h : Head) (k : Header) (r : HeadTurn) : Type 0 where
-  pub says : end_by (on_item h k) p (tokens_at text q) (λ s. run head_step (tokens_at text q) s) ≡ turn_end text r.head r.turn
-  pub stays : TurnIn text q r.turn
+pub record Opened (text : List ℕ) (p q : ℕ) (h : Head) (k : Header) (r : Result HeadRead BadToken) : Type 0 where
+  pub says : end_by (on_item h k) p (tokens_at text q) (λ s. run head_step (tokens_at text q) s) ≡ item_end text r
+  pub stays : ItemIn text q r
 
--- a refusal of the whole header
-abbrev pub refused_read : ℕ → ℕ → HeadRead
-refused_read n p = record { end = head_endings.Refused n p; head = blank }
+-- ---- behind an item or `--BODY--`
+
+-- behind `--BODY--`, which stands at p
+abbrev pub body_turn : ℕ → ℕ → Head → Result HeadRead BadToken
+body_turn p q h = cond (not (is_given h.start) || not (is_given h.marks)) (Err (record { number = 41; place = p })) (Ok (record { head = h; next = q }))
+
+-- the next item, the text behind `--BODY--`, or the refusal
+abbrev pub turn_end : List ℕ → Result HeadTurn BadToken → End Head
+turn_end text (Ok (turn.Go r)) = run head_step (tokens_at text r.next) (items r.head)
+turn_end text (Ok (turn.Done r)) = done_at r.head (tokens_at text r.next)
+turn_end text (Err bad) = wrong_at bad.number bad.place
+
+-- all of it in the text, from here on
+abbrev pub TurnIn : List ℕ → ℕ → Result HeadTurn BadToken → Type 0
+TurnIn text low (Ok (turn.Go r)) = (low ≤ r.next) × (r.next ≤ length text)
+TurnIn text low (Ok (turn.Done r)) = r.next ≤ length text
+TurnIn text low (Err bad) = bad.place ≤ length text
+
+-- an item takes a byte at least
+pub record ItemTurned (text : List ℕ) (at : ℕ) (h : Head) (r : Result HeadTurn BadToken) : Type 0 where
+  pub says : run head_step (tokens_at text at) (items h) ≡ turn_end text r
+  pub stays : TurnIn text (at + 1) r
 
 -- how the header ends, from an item on
-pub record ItemsRead (text : List ℕ) (at : ℕ) (r : HeadRead) : Type 0 where
-  pub says : Ends text (run head_step (tokens_at text at) (items blank)) r.head r.end
+pub record ItemsRead (text : List ℕ) (at : ℕ) (r : Result HeadRead BadToken) : Type 0 where
+  pub says : Ends text (run head_step (tokens_at text at) (items blank)) r
 
 -- "one of States:, Start:, AP:, Acceptance:, acc-name:, tool:, name: that came before"
 abbrev pub second : Head → Header → Bool

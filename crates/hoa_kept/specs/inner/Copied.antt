@@ -1,24 +1,9 @@
 -- The kept edges by states, in the lent tables. Assumes nothing.
 use Rattle.std.specs.Prelude.{◌≡◌, List, [], ◌++◌, ℕ, zero, suc, ◌+◌, ◌-◌, ◌≤◌, length, get_or, take, drop, replicate}
 
--- the cells up to `end`: as they were up to `first`, and then the value
-pub record Filled (first end value : ℕ) (cells cells' : List ℕ) : Type 0 where
-  pub front : take end cells' ≡ take first cells ++ replicate (end - first) value
-
 -- part of a list, from an index up to another
 abbrev pub between : ℕ → ℕ → List ℕ → List ℕ
 between first end xs = take (end - first) (drop first xs)
-
--- the part is within the source, and the cells are enough
-pub record CopyRoom (at first end : ℕ) (source cells : List ℕ) : Type 0 where
-  pub ordered : first ≤ end
-  pub within : end ≤ 512
-  pub there : end ≤ length source
-  pub room : at + (end - first) ≤ length cells
-
--- as they were up to `at`, and then the source's cells
-pub record Copied (at first end : ℕ) (source cells cells' : List ℕ) : Type 0 where
-  pub front : take (at + (end - first)) cells' ≡ take at cells ++ between first end source
 
 -- the index of the first edge of state q
 abbrev pub first_of : List ℕ → ℕ → ℕ

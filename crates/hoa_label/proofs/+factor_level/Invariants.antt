@@ -17,8 +17,8 @@ invariant-factor-loop-flipped l = Flips l.text l.a l.at l.depth l.flipped l.from
 abbrev pub decreases-factor-loop-flipped : goal.decreases-factor-loop-flipped
 decreases-factor-loop-flipped l = length l.text - l.from
 
-abbrev pub invariant-level-loop-number : goal.invariant-level-loop-number
-invariant-level-loop-number l = Joins l.text l.a l.at l.depth l.ors l.ands l.from
+abbrev pub invariant-level-loop-read : goal.invariant-level-loop-read
+invariant-level-loop-read l = Joins l.text l.a l.at l.depth l.ors l.ands l.from
 
-abbrev pub decreases-level-loop-number : goal.decreases-level-loop-number
-decreases-level-loop-number l = length l.text - l.from
+abbrev pub decreases-level-loop-read : goal.decreases-level-loop-read
+decreases-level-loop-read l = length l.text - l.from

@@ -1,9 +1,9 @@
 -- What the functions that read a factor and a level of brackets give, for every list of levels outside them. Assumes nothing.
-use Rattle.std.specs.Prelude.{Bool, false, List, ◌≡◌, ℕ, length}
+use Rattle.std.specs.Prelude.{Result, Ok, Err, Bool, false, List, ◌≡◌, ℕ, length}
 use Rattle.std.specs.Int.Bits.{bit_and}
+use Rattle.hoa_tokens.specs.declared.BadToken.{BadToken}
 use Rattle.hoa_tokens.specs.Stream.{Placed, tokens_at}
 use Rattle.hoa_label.specs.declared.LabelRead.{LabelRead}
-use Rattle.hoa_label.specs.declared.LabelRead.TheVariants.{Shut, Refused}
 use Rattle.hoa_label.specs.Labels.{
   turned,
   Frame,
@@ -23,7 +23,7 @@ use Rattle.hoa_label.specs.Labels.{
   label_run,
   label_next,
 }
-use Rattle.hoa_label.specs.Reading.{Onward}
+use Rattle.hoa_label.specs.Reading.{shut_to, Onward}
 
 -- how a run ends, and the byte behind the token that shuts the label
 abbrev pub Stop : Type 0
@@ -40,26 +40,26 @@ stop_by (shut x) place next ps more = (shut_at x ps, next)
 stop_by (wrong n) place next ps more = (wrong_at n place, 0)
 
 -- behind a factor that is read, of a level with the sets o and c
-abbrev pub factor_stop : List ℕ → ℕ → ℕ → ℕ → List Frame → LabelRead → Stop
-factor_stop text a o c fs (Shut set next) = stop_from text a next (Has o (bit_and c set) fs)
-factor_stop text a o c fs (Refused number place) = (wrong_at number place, 0)
+abbrev pub factor_stop : List ℕ → ℕ → ℕ → ℕ → List Frame → Result LabelRead BadToken → Stop
+factor_stop text a o c fs (Ok r) = stop_from text a r.next (Has o (bit_and c r.set) fs)
+factor_stop text a o c fs (Err e) = (wrong_at e.number e.place, 0)
 
 -- r is what the tokens give where a factor is wanted, so many levels deep
-pub record FactorAt (text : List ℕ) (at a depth : ℕ) (r : LabelRead) : Type 0 where
+pub record FactorAt (text : List ℕ) (at a depth : ℕ) (r : Result LabelRead BadToken) : Type 0 where
   pub is : (o c : ℕ) (fs : List Frame) → length fs ≡ depth → stop_from text a at (wants (frame o c false) fs) ≡ factor_stop text a o c fs r
   pub onward : Onward text at r
 
 -- a level that is read as a factor, negated or not
-abbrev pub flipped_read : Bool → LabelRead → LabelRead
-flipped_read n (Shut set next) = Shut (turned n set) next
-flipped_read n (Refused number place) = Refused number place
+abbrev pub flipped_read : Bool → Result LabelRead BadToken → Result LabelRead BadToken
+flipped_read n (Ok r) = shut_to (turned n r.set) r.next
+flipped_read n (Err e) = Err e
 
 -- behind a level that is read
-abbrev pub level_stop : List ℕ → ℕ → List Frame → LabelRead → Stop
-level_stop text a fs (Shut set next) = stop_by (shut_level set fs) 0 next (tokens_at text next) (stop_from text a next)
-level_stop text a fs (Refused number place) = (wrong_at number place, 0)
+abbrev pub level_stop : List ℕ → ℕ → List Frame → Result LabelRead BadToken → Stop
+level_stop text a fs (Ok r) = stop_by (shut_level r.set fs) 0 r.next (tokens_at text r.next) (stop_from text a r.next)
+level_stop text a fs (Err e) = (wrong_at e.number e.place, 0)
 
 -- r is what the tokens give where a level begins, so many levels deep
-pub record LevelAt (text : List ℕ) (at a depth : ℕ) (r : LabelRead) : Type 0 where
+pub record LevelAt (text : List ℕ) (at a depth : ℕ) (r : Result LabelRead BadToken) : Type 0 where
   pub is : (fs : List Frame) → length fs ≡ depth → stop_from text a at (wants fresh fs) ≡ level_stop text a fs r
   pub onward : Onward text at r

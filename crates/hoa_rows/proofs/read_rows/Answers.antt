@@ -1,37 +1,21 @@
 -- `read_rows` meets its contract: the rows' refusal, or what is handed over of them (`rows_handed`). Assumes nothing.
-use mathlib.Core.Path.{refl, subst}
-use Rattle.hoa_rows.specs.Lent.{rows_end}
-use Rattle.hoa_rows.specs.inner.Turns.{Ended}
+use Rattle.std.proofs.lemmas.Result.{err_from_is_err_and}
 use Rattle.hoa_rows.proofs.Handing.{handing, rows_refused, rows_handed}
 use Rattle.hoa_rows.proofs.read_rows.Goals as goal
-
-pub read_entries-requires : goal.read_entries-requires
-read_entries-requires c = record { targets = refl; unions = refl; starts = refl; stops = refl }
 
 pub hand_over-requires : goal.hand_over-requires
 hand_over-requires c =
     let a = c.args in
-    let read = c.read_entries in
-    let told = subst
-    (Ended (rows_end a.limits a.text.now a.at) read.new.tos read.new.sets read.new.firsts read.new.ends)
-    c.in-Done.is read.ensures in
-    handing a.limits a.text.now a.at _ _ _ _ _ told
+    handing a.limits a.text.now a.at _ c.in_ok-read_entries.ensures
 
-pub returns-in-Refused : goal.returns-in-Refused
-returns-in-Refused c =
+pub returns-in_err-read_entries : goal.returns-in_err-read_entries
+returns-in_err-read_entries c =
     let a = c.args in
-    let read = c.read_entries in
-    let told = subst
-    (Ended (rows_end a.limits a.text.now a.at) read.new.tos read.new.sets read.new.firsts read.new.ends)
-    c.in-Refused.is read.ensures in
-    rows_refused a.limits a.text.now a.at a.from.now a.to.now a.marks.now _ _ told
+    let p = err_from_is_err_and c.from_residual.result c.from_residual.ensures.1 in
+    rw (p.1, p.2) (rows_refused a.limits a.text.now a.at a.from.now a.to.now a.marks.now _ _ c.in_err-read_entries.ensures)
 
-pub returns-in-Done : goal.returns-in-Done
-returns-in-Done c =
+pub returns : goal.returns
+returns c =
     let a = c.args in
-    let read = c.read_entries in
     let over = c.hand_over in
-    let told = subst
-    (Ended (rows_end a.limits a.text.now a.at) read.new.tos read.new.sets read.new.firsts read.new.ends)
-    c.in-Done.is read.ensures in
-    rows_handed a.limits a.text.now a.at _ _ _ _ _ told a.from.now a.to.now a.marks.now _ _ _ over.result over.ensures
+    rows_handed a.limits a.text.now a.at _ c.in_ok-read_entries.ensures a.from.now a.to.now a.marks.now _ _ _ over.result over.ensures

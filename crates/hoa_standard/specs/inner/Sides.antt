@@ -1,4 +1,4 @@
--- The machines' states that are met together, as the reader keeps them (src/machine.rt): what each stands for, and how each goes on. Assumes nothing.
+-- The machines' states that are met together, as the reader keeps them (src/lib.rt): what each stands for, and how each goes on. Assumes nothing.
 use Rattle.std.specs.Prelude.{Bool, true, false, cond, ℕ, zero, suc, ◌%◌, ◌≤◌, eqb}
 use Rattle.hoa_standard.specs.declared.Ahead.{Ahead}
 use Rattle.hoa_standard.specs.declared.Ahead.TheVariants as ahead_kinds

@@ -3,12 +3,12 @@ use mathlib.Core.Path.{sym, ◌∙◌}
 use Rattle.hoa_step.proofs.Wants.{int_next, int_faulty}
 use Rattle.hoa_step.proofs.read_int.Goals as goal
 
-pub returns-in-Value : goal.returns-in-Value
-returns-in-Value c =
+pub returns-in-Ok : goal.returns-in-Ok
+returns-in-Ok c =
     let f = c.token_at-found in
-    int_next f.result _ f.ensures (sym c.int_kind.ensures ∙ c.in-Value.is)
+    int_next f.result _ f.ensures (sym c.int_kind.ensures ∙ c.in-Ok.is)
 
-pub returns-in-Fault : goal.returns-in-Fault
-returns-in-Fault c =
+pub returns-in-Err : goal.returns-in-Err
+returns-in-Err c =
     let f = c.token_at-found in
-    int_faulty f.result _ f.ensures (sym c.int_kind.ensures ∙ c.in-Fault.is)
+    int_faulty f.result _ f.ensures (sym c.int_kind.ensures ∙ c.in-Err.is)

@@ -3,12 +3,12 @@ use mathlib.Core.Path.{sym, ◌∙◌}
 use Rattle.hoa_step.proofs.Wants.{text_next, text_faulty}
 use Rattle.hoa_step.proofs.read_text.Goals as goal
 
-pub returns-in-Quoted : goal.returns-in-Quoted
-returns-in-Quoted c =
+pub returns-in-Ok : goal.returns-in-Ok
+returns-in-Ok c =
     let f = c.token_at-found in
-    text_next f.result f.ensures (sym c.text_kind.ensures ∙ c.in-Quoted.is)
+    text_next f.result f.ensures (sym c.text_kind.ensures ∙ c.in-Ok.is)
 
-pub returns-in-Fault : goal.returns-in-Fault
-returns-in-Fault c =
+pub returns-in-Err : goal.returns-in-Err
+returns-in-Err c =
     let f = c.token_at-found in
-    text_faulty f.result _ f.ensures (sym c.text_kind.ensures ∙ c.in-Fault.is)
+    text_faulty f.result _ f.ensures (sym c.text_kind.ensures ∙ c.in-Err.is)

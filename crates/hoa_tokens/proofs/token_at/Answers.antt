@@ -5,13 +5,13 @@ use Rattle.hoa_tokens.specs.inner.Reads.{ahead_gap}
 use Rattle.hoa_tokens.proofs.Founds.{clear_found, unclosed_found}
 use Rattle.hoa_tokens.proofs.token_at.Goals as goal
 
-pub returns-in-Clear : goal.returns-in-Clear
-returns-in-Clear c =
+pub returns-in-Ok : goal.returns-in-Ok
+returns-in-Ok c =
     let a = c.args in
-    clear_found a.text.now a.at c.in-Clear.i c.front.result
-    (c.skip.ensures ∙ ap ahead_gap c.in-Clear.is) c.front.ensures
+    clear_found a.text.now a.at c.in-Ok.i c.front.result
+    (c.skip.ensures ∙ ap ahead_gap c.in-Ok.is) c.front.ensures
 
-pub returns-in-Unclosed : goal.returns-in-Unclosed
-returns-in-Unclosed c =
+pub returns-in-Err : goal.returns-in-Err
+returns-in-Err c =
     let a = c.args in
-    unclosed_found a.text.now a.at c.in-Unclosed.i (c.skip.ensures ∙ ap ahead_gap c.in-Unclosed.is)
+    unclosed_found a.text.now a.at c.in-Err.i (c.skip.ensures ∙ ap ahead_gap c.in-Err.is)

@@ -1,35 +1,28 @@
 -- What the functions of the crate promise to each other. Assumes nothing.
-use Rattle.std.specs.Prelude.{Bool, cond, ◌&&◌, List, ◌≡◌, ℕ, zero, ◌+◌, ◌≤◌, ◌<◌, eqb, ltb, length, get_or, drop}
+use Rattle.std.specs.Prelude as given
+use Rattle.std.specs.Prelude.{Result, Some, None, Ok, Err, Bool, cond, ◌&&◌, List, ◌≡◌, ℕ, zero, ◌+◌, ◌≤◌, ◌<◌, eqb, ltb, length, get_or, drop}
+use denote.Ref.{Bor}
 use Rattle.std.proofs.Math.Option.{Option, some, none}
 use Rattle.hoa_tokens.specs.declared.Kind.{Kind}
 use Rattle.hoa_tokens.specs.declared.Found.{Found}
-use Rattle.hoa_tokens.specs.declared.bytes.Class.{Class}
-use Rattle.hoa_tokens.specs.declared.bytes.Class.TheVariants as class_is
-use Rattle.hoa_tokens.specs.declared.gap.Ahead.{Ahead}
-use Rattle.hoa_tokens.specs.declared.gap.Ahead.TheVariants as ahead_kinds
-use Rattle.hoa_tokens.specs.declared.gap.Comment.{Comment}
-use Rattle.hoa_tokens.specs.declared.gap.Comment.TheVariants as comment_is
-use Rattle.hoa_tokens.specs.declared.gap.Hop.{Hop}
-use Rattle.hoa_tokens.specs.declared.gap.Hop.TheVariants as hop_is
 use Rattle.hoa_tokens.specs.declared.gap.Spot.{Spot}
-use Rattle.hoa_tokens.specs.declared.string.Quote.{Quote}
-use Rattle.hoa_tokens.specs.declared.string.Quote.TheVariants as quote_is
-use Rattle.hoa_tokens.specs.Bytes.{is_digit, is_name, run}
+use Rattle.hoa_tokens.specs.Bytes.{run}
 use Rattle.hoa_tokens.specs.Token.{Token, int, bad, Taken, int_limit, later, quoted}
 use Rattle.hoa_tokens.specs.Stream.{Gap, gap, unclosed, lost, behind, gap_of, token_of}
 
 -- ---- runs
-
--- the bytes of a class
-abbrev pub in_class : Class → ℕ → Bool
-in_class class_is.Digits b = is_digit b
-in_class class_is.Names b = is_name b
 
 -- r stands behind the bytes of the class from `at` on
 pub record RunTo (class : ℕ → Bool) (text : List ℕ) (at r : ℕ) : Type 0 where
   pub place : r ≡ at + run class (drop at text)
   pub low : at ≤ r
   pub high : at ≤ length text → r ≤ length text
+
+-- ---- names
+
+-- a key that is lent, with what it stands for
+abbrev pub lent_key : {A : Type 0} → Bor (List ℕ) × A → List ℕ × A
+lent_key k = (k.0.now, k.1)
 
 -- ---- kinds that say all of their token
 
@@ -52,12 +45,12 @@ pub record Reads (text : List ℕ) (at : ℕ) (f : Found) (t : Taken) : Type 0 w
 -- ---- strings
 
 -- the closing quote's place, if there is one
-abbrev pub quote_at : Quote → Option ℕ
-quote_at (quote_is.At i) = some i
-quote_at quote_is.Open = none
+abbrev pub quote_at : given.Option ℕ → Option ℕ
+quote_at (Some i) = some i
+quote_at None = none
 
 -- the place of the first quote from `at` on that `\` does not take along
-pub record QuoteAt (text : List ℕ) (at : ℕ) (q : Quote) : Type 0 where
+pub record QuoteAt (text : List ℕ) (at : ℕ) (q : given.Option ℕ) : Type 0 where
   pub is : later at (quoted (drop at text)) ≡ quote_at q
 
 -- a byte of the text that is no quote
@@ -82,9 +75,9 @@ abbrev pub gap_from : List ℕ → ℕ → ℕ → Gap
 gap_from text at depth = behind at (gap_of (drop at text) depth)
 
 -- the gap that is ahead
-abbrev pub ahead_gap : Ahead → Gap
-ahead_gap (ahead_kinds.Clear i) = gap i
-ahead_gap (ahead_kinds.Unclosed i) = unclosed i
+abbrev pub ahead_gap : Result ℕ ℕ → Gap
+ahead_gap (Ok i) = gap i
+ahead_gap (Err i) = unclosed i
 
 -- at a place in a comment, where so many are open
 pub record Inside (text : List ℕ) (at depth : ℕ) : Type 0 where
@@ -99,31 +92,33 @@ pub record Spotted (text : List ℕ) (at depth : ℕ) (r : Spot) : Type 0 where
   pub same : gap_from text at depth ≡ gap_from text r.at r.depth
 
 -- how the gap goes on behind a comment
-abbrev pub comment_gap : List ℕ → Comment → Gap
-comment_gap text (comment_is.Closed i) = gap_from text i zero
-comment_gap text comment_is.Endless = lost
+abbrev pub comment_gap : List ℕ → given.Option ℕ → Gap
+comment_gap text (Some i) = gap_from text i zero
+comment_gap text None = lost
 
 -- a comment does not end before it begins
-abbrev pub CommentLow : ℕ → Comment → Type 0
-CommentLow at (comment_is.Closed i) = at ≤ i
-CommentLow at comment_is.Endless = Unit
+abbrev pub CommentLow : ℕ → given.Option ℕ → Type 0
+CommentLow at (Some i) = at ≤ i
+CommentLow at None = Unit
 
 -- the comment that is open at `at` ends there
-pub record CommentAt (text : List ℕ) (at : ℕ) (c : Comment) : Type 0 where
+pub record CommentAt (text : List ℕ) (at : ℕ) (c : given.Option ℕ) : Type 0 where
   pub is : gap_from text at 1 ≡ comment_gap text c
   pub low : CommentLow at c
 
--- how the gap goes on, or what is ahead
-abbrev pub hop_gap : List ℕ → Hop → Gap
-hop_gap text (hop_is.To i) = gap_from text i zero
-hop_gap text (hop_is.Done a) = ahead_gap a
+-- how the gap goes on behind `at`, or ends there
+abbrev pub hop_gap : List ℕ → ℕ → Result (given.Option ℕ) ℕ → Gap
+hop_gap text at (Ok (Some i)) = gap_from text i zero
+hop_gap text at (Ok None) = gap at
+hop_gap text at (Err i) = unclosed i
 
 -- a byte is passed
-abbrev pub HopLow : ℕ → Hop → Type 0
-HopLow at (hop_is.To i) = at < i
-HopLow at (hop_is.Done a) = Unit
+abbrev pub HopLow : List ℕ → ℕ → Result (given.Option ℕ) ℕ → Type 0
+HopLow text at (Ok (Some i)) = (at < i) × (at < length text)
+HopLow text at (Ok None) = Unit
+HopLow text at (Err i) = Unit
 
 -- the gap from `at` on goes on there, or ends
-pub record HopAt (text : List ℕ) (at : ℕ) (h : Hop) : Type 0 where
-  pub is : gap_from text at 0 ≡ hop_gap text h
-  pub low : HopLow at h
+pub record HopAt (text : List ℕ) (at : ℕ) (h : Result (given.Option ℕ) ℕ) : Type 0 where
+  pub is : gap_from text at 0 ≡ hop_gap text at h
+  pub low : HopLow text at h

@@ -1,5 +1,6 @@
 -- What a token is where the header stands, and whether it belongs to what stands before it. Assumes nothing.
 use Rattle.std.specs.Prelude.{◌≡◌, Bool, true, false, List, ◌∷◌, ℕ, ◌+◌, ◌-◌, ◌≤◌, length}
+use Rattle.hoa_tokens.specs.declared.BadToken.{BadToken}
 use Rattle.hoa_tokens.specs.declared.Kind.{Kind}
 use Rattle.hoa_tokens.specs.declared.Kind.TheVariants as kind_is
 use Rattle.hoa_tokens.specs.Token.{Token, str}
@@ -33,6 +34,10 @@ misplaced_number item piece_is.Int = 40
 misplaced_number item piece_is.Text = 40
 misplaced_number item piece_is.Join = 40
 misplaced_number item (piece_is.Wrong n) = n
+
+-- its refusal
+abbrev pub misplaced_token : ℕ → Spot → BadToken
+misplaced_token item spot = record { number = misplaced_number item spot.piece; place = spot.first }
 
 -- `&`
 abbrev pub is_join : Piece → Bool

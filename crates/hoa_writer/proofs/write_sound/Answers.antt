@@ -1,5 +1,7 @@
 -- `write_sound` meets its contract: the limits, then writing into no cells gives the length, and where there is room the text is written (crate `writing`).
 -- Assumes nothing.
+use mathlib.Core.Path.{◌≡◌}
+use mathlib.Core.Bool.{true}
 use Rattle.table.specs.Table.{lent}
 use Rattle.table.specs.Refusal.{refusal}
 use Rattle.writing.proofs.Writings.{refused_large, refused_short, given_text}
@@ -8,18 +10,18 @@ use Rattle.hoa_written.specs.Writing.{too_large}
 use Rattle.hoa_writer.proofs.Writings.{lists_passed, permitted, many_states, many_edges, not_large}
 use native.Mathlib.Omega.{arith}
 use Rattle.hoa_writer.proofs.write_sound.Goals as goal
+use Rattle.hoa_writer.proofs.write_sound.Goals.{then-n-gt-MOST_STATES-via-then-n-gt-MOST_STATES, then-n-gt-MOST_STATES-via-else-n-gt-MOST_STATES+then-from-gt-MOST_EDGES}
 
 pub returns-then-n-gt-MOST_STATES : goal.returns-then-n-gt-MOST_STATES
 returns-then-n-gt-MOST_STATES c =
     let a = c.args in
     let t = lent a.n a.start a.from.now a.to.now a.marks.now in
-    rw c.refused.ensures (refused_large (refusal t a.condition a.needs) (too_large t) 42 (hoa_text t a.condition a.needs) a.out.now c.requires (many_states t c.if-n-gt-MOST_STATES.true))
-
-pub returns-then-from-gt-MOST_EDGES : goal.returns-then-from-gt-MOST_EDGES
-returns-then-from-gt-MOST_EDGES c =
-    let a = c.args in
-    let t = lent a.n a.start a.from.now a.to.now a.marks.now in
-    rw c.refused-then-from-gt-MOST_EDGES.ensures (refused_large (refusal t a.condition a.needs) (too_large t) 42 (hoa_text t a.condition a.needs) a.out.now c.requires (many_edges t c.if-n-gt-MOST_STATES.false c.if-from-gt-MOST_EDGES.true))
+    let large : too_large t ≡ true =
+    elim c.then-n-gt-MOST_STATES.branch [
+      | then-n-gt-MOST_STATES-via-then-n-gt-MOST_STATES w ↦ many_states t w.if-n-gt-MOST_STATES.true
+      | then-n-gt-MOST_STATES-via-else-n-gt-MOST_STATES+then-from-gt-MOST_EDGES w ↦ many_edges t w.if-n-gt-MOST_STATES.false w.if-from-gt-MOST_EDGES.true
+    ] in
+    rw c.refused.ensures (refused_large (refusal t a.condition a.needs) (too_large t) 42 (hoa_text t a.condition a.needs) a.out.now c.requires large)
 
 pub put_text-length-requires : goal.put_text-length-requires
 put_text-length-requires c =

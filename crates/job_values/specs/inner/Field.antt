@@ -1,9 +1,7 @@
 -- A value is read from the left, up to the byte that ends it: what the readers ask and promise. Assumes nothing.
-use Rattle.std.specs.Prelude.{◌≡◌, true, cond, ◌⊎◌, List, [], ◌∷◌, ◌++◌, ℕ, suc, ◌-◌, ◌≤◌, ◌<◌, eqb, length, take, drop}
+use Rattle.std.specs.Prelude.{◌≡◌, true, cond, ◌⊎◌, List, [], ◌∷◌, ◌++◌, ℕ, suc, ◌-◌, ◌≤◌, ◌<◌, eqb, length, take, drop, Result, Ok, Err}
 use Rattle.std.proofs.Math.Option.{Option, some, none}
 use Rattle.table.specs.Row.{part}
-use Rattle.job_values.specs.declared.field.Field.{Field}
-use Rattle.job_values.specs.declared.field.Field.TheVariants.{Value, Wrong}
 use Rattle.job_values.specs.declared.field.Run.{Run}
 use Rattle.job_values.specs.Bytes.{newline, ahead}
 use Rattle.job_values.specs.Number.{number}
@@ -49,9 +47,9 @@ pub record Lost (R : List ℕ → Type 0) (text : List ℕ) (at end e : ℕ) : T
   pub ends : e ≤ end
   pub stuck : Stuck R (drop at text) (e - at)
 
-abbrev pub FieldAt : ℕ → (List ℕ → Option ℕ) → List ℕ → ℕ → ℕ → Field → Type 0
-FieldAt stop form text at end (Value v next) = Got stop form text at end v next
-FieldAt stop form text at end (Wrong e) = Lost (Ended stop form) text at end e
+abbrev pub FieldAt : ℕ → (List ℕ → Option ℕ) → List ℕ → ℕ → ℕ → Result Run ℕ → Type 0
+FieldAt stop form text at end (Ok run) = Got stop form text at end run.value run.next
+FieldAt stop form text at end (Err e) = Lost (Ended stop form) text at end e
 
 -- the longest run of bytes that can begin a number, and its value: 0 where it is empty
 pub record RunAt (text : List ℕ) (at end : ℕ) (r : Run) : Type 0 where

@@ -4,9 +4,9 @@ use Rattle.job_text.proofs.Tables.{froms_reach, tos_reach, sets_reach}
 use Rattle.judge_text.proofs.Telling.{refused_so, states_few, edges_few, judged_so}
 use Rattle.judge_text.proofs.judge_text.Goals as goal
 
-pub returns-in-Refused : goal.returns-in-Refused
-returns-in-Refused c =
-    record { printed = _; says = refused_so c.read-job.ensures c.in-Refused.is; held = c.show_refused.ensures }
+pub returns-in-Err : goal.returns-in-Err
+returns-in-Err c =
+    record { printed = _; says = refused_so c.read-job.ensures c.in-Err.is; held = c.show_refused.ensures }
 
 pub slice_bounds-answer_job-end : goal.slice_bounds-answer_job-end
 slice_bounds-answer_job-end c = froms_reach c.read-job.ensures

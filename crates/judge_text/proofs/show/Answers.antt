@@ -4,12 +4,12 @@ use borrow.Author.Rules.{rules}
 use Rattle.judge_text.proofs.Telling.{shown_whole, never_short}
 use Rattle.judge_text.proofs.show.Goals as goal
 
-pub returns-in-Text : goal.returns-in-Text
-returns-in-Text c =
+pub returns-in-Ok : goal.returns-in-Ok
+returns-in-Ok c =
     let print = c.print in
-    shown_whole (search rules) c.requires print.ensures c.in-Text.is
+    shown_whole (search rules) c.requires print.ensures c.in-Ok.is
 
-pub returns-in-Refused : goal.returns-in-Refused
-returns-in-Refused c =
+pub returns-in-Err : goal.returns-in-Err
+returns-in-Err c =
     let print = c.print in
-    never_short (search rules) c.requires print.ensures c.in-Refused.is
+    never_short (search rules) c.requires print.ensures c.in-Err.is

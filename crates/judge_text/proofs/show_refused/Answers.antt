@@ -6,12 +6,12 @@ use Rattle.judge_text.proofs.Fits.{refused_fits}
 use Rattle.judge_text.proofs.Telling.{shown_whole, never_short}
 use Rattle.judge_text.proofs.show_refused.Goals as goal
 
-pub returns-in-Text : goal.returns-in-Text
-returns-in-Text c =
+pub returns-in-Ok : goal.returns-in-Ok
+returns-in-Ok c =
     let a = c.args in
-    shown_whole (search rules) (refused_fits a.number a.place a.column (omega arith) (omega arith) (omega arith)) c.print_refused.ensures c.in-Text.is
+    shown_whole (search rules) (refused_fits a.number a.place a.column (omega arith) (omega arith) (omega arith)) c.print_refused.ensures c.in-Ok.is
 
-pub returns-in-Refused : goal.returns-in-Refused
-returns-in-Refused c =
+pub returns-in-Err : goal.returns-in-Err
+returns-in-Err c =
     let a = c.args in
-    never_short (search rules) (refused_fits a.number a.place a.column (omega arith) (omega arith) (omega arith)) c.print_refused.ensures c.in-Refused.is
+    never_short (search rules) (refused_fits a.number a.place a.column (omega arith) (omega arith) (omega arith)) c.print_refused.ensures c.in-Err.is

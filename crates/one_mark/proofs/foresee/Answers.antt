@@ -1,12 +1,12 @@
 -- `foresee` meets its contract: its tests are those of `answer` in their order, and each answer follows from the tests that lead to it
 -- (proofs/Answers.antt). Assumes nothing.
+use Rattle.std.specs.Prelude.{Ok}
 use mathlib.Core.Path.{◌≡◌, sym, ◌∙◌}
 use mathlib.Core.Bool.{Bool}
 use mathlib.Core.List.{List, []}
 use Prim.Native.Nat.{ℕ, ◌+◌, ◌*◌, ◌≤◌}
 use native.Mathlib.Omega.{arith}
 use Rattle.table.specs.declared.Acceptance.TheVariants.{Buchi}
-use Rattle.table.specs.declared.Finding.TheVariants.{Sound}
 use Rattle.table.specs.Table.{lent}
 use Rattle.table.specs.Refusal.{refusal, most_states, most_edges}
 use Rattle.marks.specs.Mark.{width}
@@ -15,6 +15,7 @@ use Rattle.climbing.specs.Source.{source}
 use Rattle.climbing.specs.Translated.{translated}
 use Rattle.one_mark.proofs.Answers.{Counts, counts, answer_faulty, answer_large, answer_short, answer_made, not_large, ladder, counts_fit, start_below, rising}
 use Rattle.one_mark.specs.Outcome.{large, short}
+use Rattle.std.proofs.lemmas.Result.{err_from_is_err_and}
 use Rattle.one_mark.proofs.foresee.Goals as goal
 
 -- what is known once the table that is lent was found sound
@@ -24,7 +25,7 @@ module _ (n start k : ℕ) (from to marks : List ℕ) (K m : ℕ) (all : K ≡ l
   made = counts n start k K m from to marks all many
 
   -- they fit a word
-  edges_fit : refusal (lent n start from to marks) (Buchi k) [] ≡ Sound → m * K ≤ (most_edges + most_states) * width
+  edges_fit : refusal (lent n start from to marks) (Buchi k) [] ≡ Ok tt → m * K ≤ (most_edges + most_states) * width
   edges_fit sound = rw (← made.edges) (rw (← all) (counts_fit n start k from to marks sound K all).1)
 
   -- row 10 was tested
@@ -35,34 +36,34 @@ module _ (n start k : ℕ) (from to marks : List ℕ) (K m : ℕ) (all : K ≡ l
   short-told : {r : Bool} (a b c : ℕ) → r ≡ short (m * K) a b c → r ≡ short (translated (lent n start from to marks) k).edges a b c
   short-told a b c e = rw made.edges e
 
-pub returns-in-Refused : goal.returns-in-Refused
-returns-in-Refused c =
+pub returns-in_err-check : goal.returns-in_err-check
+returns-in_err-check c =
     let a = c.args in
     let out = a.lengths in
-    answer_faulty (lent a.n a.start a.from.now a.to.now a.marks.now) a.k out.leaves out.arrives out.bears c.in-Refused.number c.in-Refused.place
-    (sym c.check-finding.ensures ∙ c.in-Refused.is)
+    let p = err_from_is_err_and c.from_residual.result c.from_residual.ensures.1 in
+    rw (p.1, p.2) (answer_faulty (lent a.n a.start a.from.now a.to.now a.marks.now) a.k out.leaves out.arrives out.bears _ _ (sym c.check.ensures ∙ c.in_err-check.was))
 
 pub overflow_mul-states : goal.overflow_mul-states
 overflow_mul-states c =
     let a = c.args in
-    omega (arith, (counts_fit a.n a.start a.k a.from.now a.to.now a.marks.now (sym c.check-finding.ensures ∙ c.in_default.is) _ c.level_count-levels.ensures).0)
+    omega (arith, (counts_fit a.n a.start a.k a.from.now a.to.now a.marks.now (sym c.check.ensures ∙ c.in_ok-check.was) _ c.level_count-levels.ensures).0)
 
 pub source_count-requires : goal.source_count-requires
 source_count-requires c =
     let a = c.args in
-    rising a.n a.start a.k a.from.now a.to.now a.marks.now (sym c.check-finding.ensures ∙ c.in_default.is)
+    rising a.n a.start a.k a.from.now a.to.now a.marks.now (sym c.check.ensures ∙ c.in_ok-check.was)
 
 pub overflow_mul-edges : goal.overflow_mul-edges
 overflow_mul-edges c =
     let a = c.args in
-    omega (arith, edges_fit a.n a.start a.k a.from.now a.to.now a.marks.now _ _ c.level_count-levels.ensures c.source_count.ensures (sym c.check-finding.ensures ∙ c.in_default.is))
+    omega (arith, edges_fit a.n a.start a.k a.from.now a.to.now a.marks.now _ _ c.level_count-levels.ensures c.source_count.ensures (sym c.check.ensures ∙ c.in_ok-check.was))
 
 pub returns-then-too_large : goal.returns-then-too_large
 returns-then-too_large c =
     let a = c.args in
     let out = a.lengths in
     c.refused.ensures
-    ∙ answer_large (lent a.n a.start a.from.now a.to.now a.marks.now) a.k out.leaves out.arrives out.bears (sym c.check-finding.ensures ∙ c.in_default.is)
+    ∙ answer_large (lent a.n a.start a.from.now a.to.now a.marks.now) a.k out.leaves out.arrives out.bears (sym c.check.ensures ∙ c.in_ok-check.was)
     (sym (large-told a.n a.start a.k a.from.now a.to.now a.marks.now _ _ c.level_count-levels.ensures c.source_count.ensures c.too_large.ensures) ∙ c.if-too_large.true)
 
 pub returns-then-too_short : goal.returns-then-too_short
@@ -70,14 +71,14 @@ returns-then-too_short c =
     let a = c.args in
     let out = a.lengths in
     c.refused-then-too_short.ensures
-    ∙ answer_short (lent a.n a.start a.from.now a.to.now a.marks.now) a.k out.leaves out.arrives out.bears (sym c.check-finding.ensures ∙ c.in_default.is)
+    ∙ answer_short (lent a.n a.start a.from.now a.to.now a.marks.now) a.k out.leaves out.arrives out.bears (sym c.check.ensures ∙ c.in_ok-check.was)
     (sym (large-told a.n a.start a.k a.from.now a.to.now a.marks.now _ _ c.level_count-levels.ensures c.source_count.ensures c.too_large.ensures) ∙ c.if-too_large.false)
     (sym (short-told a.n a.start a.k a.from.now a.to.now a.marks.now _ _ c.level_count-levels.ensures c.source_count.ensures _ _ _ c.too_short.ensures) ∙ c.if-too_short.true)
 
 pub number_of-first-requires : goal.number_of-first-requires
 number_of-first-requires c =
     let a = c.args in
-    let s = sym c.check-finding.ensures ∙ c.in_default.is in
+    let s = sym c.check.ensures ∙ c.in_ok-check.was in
     let told = c.level_count-levels in
     let few = not_large (translated (lent a.n a.start a.from.now a.to.now a.marks.now) a.k).states (translated (lent a.n a.start a.from.now a.to.now a.marks.now) a.k).edges (sym (large-told a.n a.start a.k a.from.now a.to.now a.marks.now _ _ c.level_count-levels.ensures c.source_count.ensures c.too_large.ensures) ∙ c.if-too_large.false) in
     record {
@@ -88,14 +89,14 @@ number_of-first-requires c =
 pub overflow_cast-count : goal.overflow_cast-count
 overflow_cast-count c =
     let a = c.args in
-    omega (arith, edges_fit a.n a.start a.k a.from.now a.to.now a.marks.now _ _ c.level_count-levels.ensures c.source_count.ensures (sym c.check-finding.ensures ∙ c.in_default.is))
+    omega (arith, edges_fit a.n a.start a.k a.from.now a.to.now a.marks.now _ _ c.level_count-levels.ensures c.source_count.ensures (sym c.check.ensures ∙ c.in_ok-check.was))
 
 pub returns : goal.returns
 returns c =
     let a = c.args in
     let out = a.lengths in
     let m = made a.n a.start a.k a.from.now a.to.now a.marks.now _ _ c.level_count-levels.ensures c.source_count.ensures in
-    let answered = answer_made (lent a.n a.start a.from.now a.to.now a.marks.now) a.k out.leaves out.arrives out.bears (sym c.check-finding.ensures ∙ c.in_default.is)
+    let answered = answer_made (lent a.n a.start a.from.now a.to.now a.marks.now) a.k out.leaves out.arrives out.bears (sym c.check.ensures ∙ c.in_ok-check.was)
     (sym (large-told a.n a.start a.k a.from.now a.to.now a.marks.now _ _ c.level_count-levels.ensures c.source_count.ensures c.too_large.ensures) ∙ c.if-too_large.false)
     (sym (short-told a.n a.start a.k a.from.now a.to.now a.marks.now _ _ c.level_count-levels.ensures c.source_count.ensures _ _ _ c.too_short.ensures) ∙ c.if-too_short.false) in
     rw (c.number_of-first.ensures, ← m.states, ← m.edges, ← m.first) answered

@@ -1,3 +1,4 @@
+-- `count_digits` meets its contract: each turn takes one digit off and counts it (`decimal_longer`), up to the last one. Assumes nothing.
 use mathlib.Core.Path.{◌≡◌}
 use Prim.Native.Nat.{◌+◌}
 use lib.ListN.{length}

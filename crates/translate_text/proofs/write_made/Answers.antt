@@ -7,16 +7,16 @@ use Rattle.translate_text.proofs.Translating.{written_stands, refusal_stands}
 use borrow.Author.Rules.{rules}
 use Rattle.translate_text.proofs.write_made.Goals as goal
 
-pub returns-in-Text : goal.returns-in-Text
-returns-in-Text c =
+pub returns-in-Ok : goal.returns-in-Ok
+returns-in-Ok c =
     let a = c.args in
     let t = lent a.n a.start a.from.now a.to.now a.marks.now in
     let wide : length a.out.now ≡ most_bytes = search rules in
-    written_stands t a.out.now wide c.write_job.ensures c.in-Text.is
+    written_stands t a.out.now wide c.write_job.ensures c.in-Ok.is
 
-pub returns-in-Refused : goal.returns-in-Refused
-returns-in-Refused c =
+pub returns-in-Err : goal.returns-in-Err
+returns-in-Err c =
     let a = c.args in
     let t = lent a.n a.start a.from.now a.to.now a.marks.now in
     let wide : length a.out.now ≡ most_bytes = search rules in
-    refusal_stands t a.out.now wide c.write_job.ensures c.in-Refused.is c.tell_refused.ensures
+    refusal_stands t a.out.now wide c.write_job.ensures c.in-Err.is c.tell_refused.ensures

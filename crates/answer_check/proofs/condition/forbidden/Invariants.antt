@@ -1,10 +1,7 @@
-use mathlib.Core.Path.{◌≡◌}
-use Prim.Native.Nat.{◌-◌, ◌≤◌}
+-- After i needs it has the marks that are dealt out before pair i. Assumes nothing.
+use Rattle.std.proofs.Common.{◌≡◌}
 use Rattle.table.specs.Condition.{dealt}
 use Rattle.answer_check.proofs.condition.forbidden.Given as goal
 
-abbrev pub invariant-loop-i : goal.invariant-loop-i
-invariant-loop-i l = (l.i ≤ l.pair) × (l.mark ≡ dealt l.needs l.i)
-
-abbrev pub decreases-loop-i : goal.decreases-loop-i
-decreases-loop-i l = l.pair - l.i
+abbrev pub invariant-loop-need : goal.invariant-loop-need
+invariant-loop-need l = l.mark ≡ dealt l.fn.needs l.need-index

@@ -1,3 +1,4 @@
+-- `position` edges are walked, and the fields from `at` on are those that are left; the measure is what is left of the bytes. Assumes nothing.
 use Prim.Native.Nat.{◌+◌, ◌-◌, ◌≤◌}
 use lib.ListN.{length}
 use Rattle.answer_check.proofs.Going.{Underway}

@@ -1,5 +1,4 @@
 -- `edge::read_edge_sig` meets its contract: `&` is refused, `{` opens a sig, and any other token does there what it does behind an edge. Assumes nothing.
-use borrow.Enum.Refused.{opened}
 use Rattle.hoa_entry.proofs.Reading.{more_joined, more_goes, more_stays}
 use Rattle.hoa_entry.proofs.edge.read_edge_sig.Goals as goal
 
@@ -19,4 +18,4 @@ pub returns-in_default : goal.returns-in_default
 returns-in_default c =
     let a = c.args in
     let e = c.entry_at-here in
-    more_stays a.text.now a.at e.result e.ensures a.c a.before (opened c.in_default.in_default-own.keys3)
+    more_stays a.text.now a.at e.result e.ensures a.c a.before c.in_default.not-Sig c.in_default.not-Join

@@ -7,31 +7,31 @@ pub returns-then-not_below : goal.returns-then-not_below
 returns-then-not_below c =
     let a = c.args in
     let i = c.read_int in
-    number_above a.states a.text.now a.at a.firsts.now c.in-Value.is i.ensures (sym c.not_below.ensures ∙ c.if-not_below.true)
+    number_above a.states a.text.now a.at a.firsts.now c.in-Ok.is i.ensures (sym c.not_below.ensures ∙ c.if-not_below.true)
 
 pub returns-then-value-ge-MOST_STATES : goal.returns-then-value-ge-MOST_STATES
 returns-then-value-ge-MOST_STATES c =
     let a = c.args in
     let i = c.read_int in
-    number_large a.states a.text.now a.at a.firsts.now c.in-Value.is i.ensures
+    number_large a.states a.text.now a.at a.firsts.now c.in-Ok.is i.ensures
     (sym c.not_below.ensures ∙ c.if-not_below.false) c.if-value-ge-MOST_STATES.true
 
-pub returns-then-firsts-q-ne0 : goal.returns-then-firsts-q-ne0
-returns-then-firsts-q-ne0 c =
+pub returns-then-firsts-value-ne0 : goal.returns-then-firsts-value-ne0
+returns-then-firsts-value-ne0 c =
     let a = c.args in
     let i = c.read_int in
-    number_twice a.states a.text.now a.at a.firsts.now c.in-Value.is i.ensures
-    (sym c.not_below.ensures ∙ c.if-not_below.false) c.if-value-ge-MOST_STATES.false c.if-firsts-q-ne0.true
+    number_twice a.states a.text.now a.at a.firsts.now c.in-Ok.is i.ensures
+    (sym c.not_below.ensures ∙ c.if-not_below.false) c.if-value-ge-MOST_STATES.false c.if-firsts-value-ne0.true
 
-pub returns-in-Refused : goal.returns-in-Refused
-returns-in-Refused c =
+pub returns-in-Err : goal.returns-in-Err
+returns-in-Err c =
     let a = c.args in
     let i = c.read_int in
-    number_refused a.states a.text.now a.at a.firsts.now _ c.in-Refused.is i.ensures c.number_fault.ensures
+    number_refused a.states a.text.now a.at a.firsts.now _ c.in-Err.is i.ensures c.number_fault.ensures
 
-pub returns-else-firsts-q-ne0 : goal.returns-else-firsts-q-ne0
-returns-else-firsts-q-ne0 c =
+pub returns : goal.returns
+returns c =
     let a = c.args in
     let i = c.read_int in
-    number_new a.states a.text.now a.at a.firsts.now c.in-Value.is i.ensures
-    (sym c.not_below.ensures ∙ c.if-not_below.false) c.if-value-ge-MOST_STATES.false c.if-firsts-q-ne0.false
+    number_new a.states a.text.now a.at a.firsts.now c.in-Ok.is i.ensures
+    (sym c.not_below.ensures ∙ c.if-not_below.false) c.if-value-ge-MOST_STATES.false c.if-firsts-value-ne0.false

@@ -1,5 +1,4 @@
 -- `row::read_row_sig` meets its contract: `{` opens a sig, and any other token does there what it does behind a row. Assumes nothing.
-use borrow.Enum.Refused.{opened}
 use Rattle.hoa_entry.proofs.Reading.{row_sig_goes, row_sig_stays}
 use Rattle.hoa_entry.proofs.row.read_row_sig.Goals as goal
 
@@ -9,8 +8,8 @@ returns-in-Sig c =
     let e = c.entry_at-here in
     row_sig_goes a.text.now a.at e.result e.ensures a.c c.read_sig.result c.in-Sig.is c.read_sig.ensures
 
-pub returns : goal.returns
-returns c =
+pub returns-in_default : goal.returns-in_default
+returns-in_default c =
     let a = c.args in
     let e = c.entry_at-here in
-    row_sig_stays a.text.now a.at e.result e.ensures a.c (opened c.in_default.in_default-own.keys2)
+    row_sig_stays a.text.now a.at e.result e.ensures a.c c.in_default.not-Sig

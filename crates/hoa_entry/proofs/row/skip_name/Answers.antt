@@ -1,5 +1,4 @@
 -- `row::skip_name` meets its contract: a name leads on, and any other token does there what it does behind a name. Assumes nothing.
-use borrow.Enum.Refused.{opened}
 use Rattle.hoa_entry.proofs.Reading.{name_goes, name_stays}
 use Rattle.hoa_entry.proofs.row.skip_name.Goals as goal
 
@@ -9,8 +8,8 @@ returns-in-Text c =
     let e = c.entry_at-here in
     name_goes a.text.now a.at e.result e.ensures c.in-Text.is
 
-pub returns : goal.returns
-returns c =
+pub returns-in_default : goal.returns-in_default
+returns-in_default c =
     let a = c.args in
     let e = c.entry_at-here in
-    name_stays a.text.now a.at e.result e.ensures (opened c.in_default.in_default-own.keys2)
+    name_stays a.text.now a.at e.result e.ensures c.in_default.not-Text

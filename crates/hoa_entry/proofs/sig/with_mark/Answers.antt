@@ -16,6 +16,6 @@ returns-then-i-lt32 c =
     let power : 1 * 2 ^ i % 2 ^ width ≡ 2 ^ i = ap (λ (x : ℕ). x % 2 ^ width) (one-mul _) ∙ mod-eq_of_lt (pow-lt c.if-i-lt32.true) in
     rw (lt-ltb i width c.if-i-lt32.true, power)
 
-pub returns : goal.returns
+pub returns-else-i-lt32 : goal.returns-else-i-lt32
 unfolding union alone
-returns c = rw (le-ltb c.args.i width c.if-i-lt32.false) (sym (or_zero_r c.args.marks))
+returns-else-i-lt32 c = rw (le-ltb c.args.i width c.if-i-lt32.false) (sym (or_zero_r c.args.marks))

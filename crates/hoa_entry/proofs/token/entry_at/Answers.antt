@@ -6,4 +6,4 @@ pub returns : goal.returns
 returns c =
     let a = c.args in
     let f = c.token_at-found in
-    entry_here a.text.now a.at f.result c.entry_of-entry.result f.ensures (c.entry_of-entry.ensures a.text.now f.result.first f.result.next)
+    entry_here a.text.now a.at f.result c.entry_of.result f.ensures (c.entry_of.ensures a.text.now f.result.first f.result.next)

@@ -2,14 +2,14 @@
 use Rattle.hoa_rows.proofs.Turning.{closes, closes_wrong}
 use Rattle.hoa_rows.proofs.reader.read_end.Goals as goal
 
-pub returns-then-number-eq0 : goal.returns-then-number-eq0
-returns-then-number-eq0 c =
+pub returns-in-None : goal.returns-in-None
+returns-in-None c =
     let a = c.args in
     let f = c.token_at-found in
-    closes a.text.now a.at f.result f.ensures _ (c.closing_fault-number.ensures a.text.now f.result.first f.result.next) a.rows c.if-number-eq0.true
+    closes a.text.now a.at f.result f.ensures _ (c.closing_fault.ensures a.text.now f.result.first f.result.next) c.in-None.is
 
-pub returns : goal.returns
-returns c =
+pub returns-in-Some : goal.returns-in-Some
+returns-in-Some c =
     let a = c.args in
     let f = c.token_at-found in
-    closes_wrong a.text.now a.at f.result f.ensures _ (c.closing_fault-number.ensures a.text.now f.result.first f.result.next) c.if-number-eq0.false
+    closes_wrong a.text.now a.at f.result f.ensures _ (c.closing_fault.ensures a.text.now f.result.first f.result.next) _ c.in-Some.is

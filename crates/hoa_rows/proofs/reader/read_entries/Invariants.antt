@@ -1,10 +1,12 @@
+-- The loop of `reader::read_entries`: before each entry the rows so far are held, and the tokens left decide (`Standing`). The measure is what is left
+-- of the text. Assumes nothing.
 use Prim.Native.Nat.{◌-◌}
 use lib.ListN.{length}
 use Rattle.hoa_rows.proofs.Turning.{Standing}
 use Rattle.hoa_rows.proofs.reader.read_entries.Given as goal
 
-abbrev pub invariant-loop-ending : goal.invariant-loop-ending
-invariant-loop-ending l = Standing l.limits l.text l.at l.place l.rows l.tos l.sets l.firsts l.ends
+abbrev pub invariant-loop-next : goal.invariant-loop-next
+invariant-loop-next l = Standing l.limits l.text l.at l.place l.rows
 
-abbrev pub decreases-loop-ending : goal.decreases-loop-ending
-decreases-loop-ending l = length l.text - l.place
+abbrev pub decreases-loop-next : goal.decreases-loop-next
+decreases-loop-next l = length l.text - l.place

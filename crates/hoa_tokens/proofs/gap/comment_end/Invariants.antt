@@ -1,3 +1,4 @@
+-- The gap from `at` on is the gap from i on with `depth` comments open; the measure is what is left of the text. Assumes nothing.
 use mathlib.Core.Path.{◌≡◌}
 use Prim.Native.Nat.{◌+◌, ◌-◌, ◌≤◌}
 use lib.ListN.{length}

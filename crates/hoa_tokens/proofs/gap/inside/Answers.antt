@@ -1,34 +1,37 @@
 -- `gap::inside` meets its contract: two bytes open a comment or close one, and any other byte is passed over. Assumes nothing.
-use mathlib.Core.Path.{sym, ◌∙◌}
-use Rattle.hoa_tokens.proofs.Gaps.{comment_opens, comment_closes, comment_on}
+use mathlib.Core.Path.{◌∙◌}
+use Rattle.hoa_tokens.proofs.Gaps.{stand_starts, comment_opens, comment_closes, comment_on}
 use native.Mathlib.Omega.{arith}
 use Rattle.hoa_tokens.proofs.gap.inside.Goals as goal
 
-pub returns-then-stand : goal.returns-then-stand
-returns-then-stand c =
+pub returns-then-starts_with : goal.returns-then-starts_with
+returns-then-starts_with c =
     let a = c.args in
     record {
       goes = omega arith;
       few = omega (arith, c.requires);
-      same = comment_opens a.text.now a.at c.requires.within a.depth c.requires.some (sym c.stand.ensures ∙ c.if-stand.true);
+      same = comment_opens a.text.now a.at c.requires.within a.depth c.requires.some
+          (stand_starts 47 42 (omega arith) (omega arith) a.text.now a.at c.starts_with.ensures.value ∙ c.if-starts_with.true);
     }
 
-pub returns-then-stand-2 : goal.returns-then-stand-2
-returns-then-stand-2 c =
+pub returns-then-starts_with-2 : goal.returns-then-starts_with-2
+returns-then-starts_with-2 c =
     let a = c.args in
     record {
       goes = omega arith;
       few = omega (arith, c.requires);
       same = comment_closes a.text.now a.at c.requires.within a.depth c.requires.some
-          (sym c.stand.ensures ∙ c.if-stand.false) (sym c.stand-2.ensures ∙ c.if-stand-2.true);
+          (stand_starts 47 42 (omega arith) (omega arith) a.text.now a.at c.starts_with.ensures.value ∙ c.if-starts_with.false)
+          (stand_starts 42 47 (omega arith) (omega arith) a.text.now a.at c.starts_with-else-starts_with.ensures.value ∙ c.if-starts_with-2.true);
     }
 
-pub returns : goal.returns
-returns c =
+pub returns-else-starts_with-2 : goal.returns-else-starts_with-2
+returns-else-starts_with-2 c =
     let a = c.args in
     record {
       goes = omega arith;
       few = omega (arith, c.requires);
       same = comment_on a.text.now a.at c.requires.within a.depth c.requires.some
-          (sym c.stand.ensures ∙ c.if-stand.false) (sym c.stand-2.ensures ∙ c.if-stand-2.false);
+          (stand_starts 47 42 (omega arith) (omega arith) a.text.now a.at c.starts_with.ensures.value ∙ c.if-starts_with.false)
+          (stand_starts 42 47 (omega arith) (omega arith) a.text.now a.at c.starts_with-else-starts_with.ensures.value ∙ c.if-starts_with-2.false);
     }

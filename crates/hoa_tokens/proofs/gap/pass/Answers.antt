@@ -1,45 +1,50 @@
 -- `gap::pass` meets its contract: a blank is passed, a comment is passed or never ends, and anything else is the end of the gap. Assumes nothing.
 use mathlib.Core.Path.{sym, ◌∙◌}
 use Prim.Native.Nat.{◌+◌, ◌≤◌}
-use borrow.Author.Tests.{not-true, not-false}
-use Rattle.hoa_tokens.proofs.Gaps.{blank_on, token_here, comment_ended, comment_endless}
+use Rattle.hoa_tokens.proofs.Gaps.{stand_starts, blank_on, token_here, comment_ended, comment_endless, gap_ends}
 use native.Mathlib.Omega.{arith}
 use Rattle.hoa_tokens.proofs.gap.pass.Goals as goal
+
+pub returns-then-text-at : goal.returns-then-text-at
+returns-then-text-at c = record { is = gap_ends c.args.text.now c.args.at c.if-text-at.true; low = tt }
 
 pub returns-then-is_blank : goal.returns-then-is_blank
 returns-then-is_blank c =
     let a = c.args in
-    record { is = blank_on a.text.now a.at c.requires (sym c.is_blank.ensures ∙ c.if-is_blank.true); low = omega arith }
+    record {
+      is = blank_on a.text.now a.at c.if-text-at.false (sym c.is_blank.ensures ∙ c.if-is_blank.true);
+      low = (omega arith, c.if-text-at.false);
+    }
 
-pub returns-then-not-stand : goal.returns-then-not-stand
-returns-then-not-stand c =
+pub returns-then-not-starts_with : goal.returns-then-not-starts_with
+returns-then-not-starts_with c =
     let a = c.args in
     record {
       is =
-          token_here a.text.now a.at c.requires (sym c.is_blank.ensures ∙ c.if-is_blank.false)
-          (sym c.stand.ensures ∙ not-true c.stand.result c.if-not-stand.true-raw);
+          token_here a.text.now a.at c.if-text-at.false (sym c.is_blank.ensures ∙ c.if-is_blank.false)
+          (stand_starts 47 42 (omega arith) (omega arith) a.text.now a.at c.starts_with.ensures.value ∙ c.if-not-starts_with.true);
       low = tt;
     }
 
-pub returns-in-Closed : goal.returns-in-Closed
-returns-in-Closed c =
+pub returns-in-Some : goal.returns-in-Some
+returns-in-Some c =
     let a = c.args in
-    let low : a.at + 2 ≤ c.in-Closed.next = rw c.in-Closed.is at c.comment_end.ensures.low in
+    let low : a.at + 2 ≤ c.in-Some.next = rw c.in-Some.is at c.comment_end.ensures.low in
     record {
       is =
-          comment_ended a.text.now a.at c.requires c.in-Closed.next (sym c.is_blank.ensures ∙ c.if-is_blank.false)
-          (sym c.stand.ensures ∙ not-false c.stand.result c.if-not-stand.false-raw)
-          (rw c.in-Closed.is at c.comment_end.ensures.is);
-      low = omega arith;
+          comment_ended a.text.now a.at c.if-text-at.false c.in-Some.next (sym c.is_blank.ensures ∙ c.if-is_blank.false)
+          (stand_starts 47 42 (omega arith) (omega arith) a.text.now a.at c.starts_with.ensures.value ∙ c.if-not-starts_with.false)
+          (rw c.in-Some.is at c.comment_end.ensures.is);
+      low = (omega arith, c.if-text-at.false);
     }
 
-pub returns-in-Endless : goal.returns-in-Endless
-returns-in-Endless c =
+pub returns-in-None : goal.returns-in-None
+returns-in-None c =
     let a = c.args in
     record {
       is =
-          comment_endless a.text.now a.at c.requires (sym c.is_blank.ensures ∙ c.if-is_blank.false)
-          (sym c.stand.ensures ∙ not-false c.stand.result c.if-not-stand.false-raw)
-          (rw c.in-Endless.is at c.comment_end.ensures.is);
+          comment_endless a.text.now a.at c.if-text-at.false (sym c.is_blank.ensures ∙ c.if-is_blank.false)
+          (stand_starts 47 42 (omega arith) (omega arith) a.text.now a.at c.starts_with.ensures.value ∙ c.if-not-starts_with.false)
+          (rw c.in-None.is at c.comment_end.ensures.is);
       low = tt;
     }

@@ -2,14 +2,16 @@
 use mathlib.Core.Path.{sym, ◌∙◌}
 use Rattle.hoa_tokens.proofs.Numbers.{digits_short, digits_long, digits_zero}
 use Rattle.hoa_tokens.proofs.number.digits_kind.Goals as goal
-
-pub returns-then-digits-le1 : goal.returns-then-digits-le1
-returns-then-digits-le1 c = record { says = λ text a b. c.spell.ensures.says text a b ∙ sym (digits_short c.args.digits.now c.if-digits-le1.true) }
+use Rattle.hoa_tokens.proofs.number.digits_kind.Goals.{else-digits-gt1-via-then-digits-gt1+else-digits-eq48, else-digits-gt1-via-else-digits-gt1}
 
 pub returns-then-digits-eq48 : goal.returns-then-digits-eq48
-returns-then-digits-eq48 c = record { says = λ text a b. sym (digits_zero c.args.digits.now c.if-digits-le1.false c.if-digits-eq48.true) }
+returns-then-digits-eq48 c = record { says = λ text a b. sym (digits_zero c.args.digits.now c.if-digits-gt1.true c.if-digits-eq48.true) }
 
-pub returns : goal.returns
-returns c =
+pub returns-else-digits-gt1 : goal.returns-else-digits-gt1
+returns-else-digits-gt1 c =
     let ds = c.args.digits.now in
-    record { says = λ text a b. c.spell-2.ensures.says text a b ∙ sym (digits_long ds c.if-digits-eq48.false) }
+    elim c.else-digits-gt1.branch [
+      | else-digits-gt1-via-then-digits-gt1+else-digits-eq48 w ↦
+          record { says = λ text a b. c.spell.ensures.says text a b ∙ sym (digits_long ds w.if-digits-eq48.false) }
+      | else-digits-gt1-via-else-digits-gt1 w ↦ record { says = λ text a b. c.spell.ensures.says text a b ∙ sym (digits_short ds w.if-digits-gt1.false) }
+    ]

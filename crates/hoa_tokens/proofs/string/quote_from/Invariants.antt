@@ -1,3 +1,4 @@
+-- What is passed over leaves the closing quote where it is; the measure is what is left of the text. Assumes nothing.
 use mathlib.Core.Path.{◌≡◌}
 use Prim.Native.Nat.{◌-◌}
 use lib.ListN.{length, drop}

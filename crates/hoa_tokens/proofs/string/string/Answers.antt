@@ -7,13 +7,13 @@ use Rattle.hoa_tokens.proofs.string.string.Goals as goal
 pub overflow_add-result : goal.overflow_add-result
 overflow_add-result c =
     let a = c.args in
-    omega (arith, quote_within a.text.now (a.at + 1) c.in-At.i (rw c.in-At.is at c.quote_from.ensures.is))
+    omega (arith, quote_within a.text.now (a.at + 1) c.in-Some.i (rw c.in-Some.is at c.quote_from.ensures.is))
 
-pub returns-in-At : goal.returns-in-At
-returns-in-At c =
+pub returns-in-Some : goal.returns-in-Some
+returns-in-Some c =
     let a = c.args in
-    string_closed a.text.now a.at c.in-At.i (rw c.in-At.is at c.quote_from.ensures.is)
+    string_closed a.text.now a.at c.in-Some.i (rw c.in-Some.is at c.quote_from.ensures.is)
 
-pub returns-in-Open : goal.returns-in-Open
-returns-in-Open c =
-    string_open c.args.text.now c.args.at c.requires (rw c.in-Open.is at c.quote_from.ensures.is)
+pub returns-in-None : goal.returns-in-None
+returns-in-None c =
+    string_open c.args.text.now c.args.at c.requires (rw c.in-None.is at c.quote_from.ensures.is)

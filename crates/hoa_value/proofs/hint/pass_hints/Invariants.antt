@@ -1,3 +1,4 @@
+-- What `hint::pass_hints` has passed over so far leaves the rest of the run as it is, and what is left of the text gets shorter. Assumes nothing.
 use Prim.Native.Nat.{◌-◌}
 use lib.ListN.{length}
 use Rattle.hoa_value.proofs.Passing.{SoFar}

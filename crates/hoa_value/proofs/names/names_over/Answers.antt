@@ -5,13 +5,7 @@ use Rattle.hoa_value.proofs.Naming.{over_not, over_text}
 use Rattle.hoa_value.proofs.names.names_over.Goals as goal
 
 pub returns-then-is_text : goal.returns-then-is_text
-returns-then-is_text c =
-    let text = c.args.text.now in
-    let spot = c.look-spot in
-    over_text text c.args.at spot.result spot.ensures c.requires (sym c.is_text.ensures ∙ c.if-is_text.true)
+returns-then-is_text c = over_text _ _ _ c.look-spot.ensures c.requires (sym c.is_text.ensures ∙ c.if-is_text.true)
 
 pub returns : goal.returns
-returns c =
-    let text = c.args.text.now in
-    let spot = c.look-spot in
-    over_not text c.args.at spot.result spot.ensures c.requires (sym c.is_text.ensures ∙ c.if-is_text.false)
+returns c = over_not _ _ _ c.look-spot.ensures c.requires (sym c.is_text.ensures ∙ c.if-is_text.false)

@@ -5,13 +5,7 @@ use Rattle.hoa_value.proofs.Values.{joined, not_joined}
 use Rattle.hoa_value.proofs.value.not_joined.Goals as goal
 
 pub returns-then-is_join : goal.returns-then-is_join
-returns-then-is_join c =
-    let text = c.args.text.now in
-    let spot = c.look-spot in
-    joined text c.args.at spot.result spot.ensures (sym c.is_join.ensures ∙ c.if-is_join.true) c.requires
+returns-then-is_join c = joined _ _ _ c.look-spot.ensures (sym c.is_join.ensures ∙ c.if-is_join.true) c.requires
 
 pub returns : goal.returns
-returns c =
-    let text = c.args.text.now in
-    let spot = c.look-spot in
-    not_joined text c.args.at spot.result spot.ensures (sym c.is_join.ensures ∙ c.if-is_join.false) c.requires
+returns c = not_joined _ _ _ c.look-spot.ensures (sym c.is_join.ensures ∙ c.if-is_join.false) c.requires

@@ -1,37 +1,22 @@
 -- `value::read_start` meets its contract: another token than an INT is refused (`start_stops`), an INT at fault (`start_wrong`), and an `&` behind it
 -- (`start_joined`); else an item may begin (`start_over`). Assumes nothing.
-use mathlib.Core.Path.{◌∙◌, sym}
-use Rattle.hoa_value.proofs.Values.{int_not, int_there, start_joined, start_over, start_stops, start_wrong}
+use mathlib.Core.Path.{sym}
+use Rattle.std.proofs.lemmas.Result.{err_from_is_err_and}
+use Rattle.hoa_value.proofs.Values.{start_joined, start_over, start_stops, start_wrong}
 use Rattle.hoa_value.proofs.value.read_start.Goals as goal
 
-pub returns-then-fault-ne0 : goal.returns-then-fault-ne0
-returns-then-fault-ne0 c =
-    let text = c.args.text.now in
-    let args = c.args in
-    start_wrong text args.at _ _ _ args.states (int_there text args.at _ c.in-Value.is c.read_int.ensures) _
-    c.start_fault-fault.ensures c.if-fault-ne0.true
+pub returns-in_err-value : goal.returns-in_err-value
+returns-in_err-value c =
+    let p = err_from_is_err_and c.from_residual.result c.from_residual.ensures.1 in
+    rw (p.1, p.2) (start_stops _ _ _ _ c.in_err-value.ensures c.requires)
 
-pub not_joined-requires : goal.not_joined-requires
-not_joined-requires c =
-    let text = c.args.text.now in
-    (int_there text c.args.at _ c.in-Value.is c.read_int.ensures).within
+pub returns-in-Some : goal.returns-in-Some
+returns-in-Some c = start_wrong _ _ _ _ c.in_ok-value.ensures _ (sym c.in-Some.ensures)
 
-pub returns-in-Refused : goal.returns-in-Refused
-returns-in-Refused c =
-    let text = c.args.text.now in
-    let args = c.args in
-    start_stops text args.at _ _ args.states (int_not text args.at _ c.in-Refused.is c.read_int.ensures) c.requires
+pub returns-in_err-next : goal.returns-in_err-next
+returns-in_err-next c =
+    let p = err_from_is_err_and c.from_residual-in_err-next.result c.from_residual-in_err-next.ensures.1 in
+    rw (p.1, p.2) (start_joined _ _ _ _ c.in_ok-value.ensures (sym c.in_default.ensures) _ c.in_err-next.ensures)
 
-pub returns-in-Refused-not_joined : goal.returns-in-Refused-not_joined
-returns-in-Refused-not_joined c =
-    let text = c.args.text.now in
-    let args = c.args in
-    start_joined text args.at _ _ _ args.states (int_there text args.at _ c.in-Value.is c.read_int.ensures) _ _
-    (sym c.start_fault-fault.ensures ∙ c.if-fault-ne0.false) (rw c.in-Refused-not_joined.is at c.not_joined.ensures)
-
-pub returns-in-Behind : goal.returns-in-Behind
-returns-in-Behind c =
-    let text = c.args.text.now in
-    let args = c.args in
-    start_over text args.at _ _ _ args.states (int_there text args.at _ c.in-Value.is c.read_int.ensures) _
-    (sym c.start_fault-fault.ensures ∙ c.if-fault-ne0.false) (rw c.in-Behind.is at c.not_joined.ensures)
+pub returns : goal.returns
+returns c = start_over _ _ _ _ c.in_ok-value.ensures (sym c.in_default.ensures) _ c.in_ok-next.ensures

@@ -1,17 +1,17 @@
--- `value::read_states` meets its contract: another token than an INT is refused (`states_stops`), and an INT by its fault (`states_goes`).
--- Assumes nothing.
-use Rattle.hoa_value.proofs.Values.{int_not, int_there, states_goes, states_stops}
+-- `value::read_states` meets its contract: another token than an INT is refused (`states_stops`), and so is an INT at fault (`states_wrong`); else an item
+-- may begin (`states_goes`). Assumes nothing.
+use mathlib.Core.Path.{sym}
+use Rattle.std.proofs.lemmas.Result.{err_from_is_err_and}
+use Rattle.hoa_value.proofs.Values.{states_stops, states_wrong, states_goes}
 use Rattle.hoa_value.proofs.value.read_states.Goals as goal
 
-pub returns-in-Refused : goal.returns-in-Refused
-returns-in-Refused c =
-    let text = c.args.text.now in
-    let args = c.args in
-    states_stops text args.at _ _ args.start (int_not text args.at _ c.in-Refused.is c.read_int.ensures) c.requires
+pub returns-in_err-value : goal.returns-in_err-value
+returns-in_err-value c =
+    let p = err_from_is_err_and c.from_residual.result c.from_residual.ensures.1 in
+    rw (p.1, p.2) (states_stops _ _ _ _ c.in_err-value.ensures c.requires)
 
-pub returns-in-Value : goal.returns-in-Value
-returns-in-Value c =
-    let text = c.args.text.now in
-    let args = c.args in
-    states_goes text args.at _ _ _ args.start _ (int_there text args.at _ c.in-Value.is c.read_int.ensures)
-    (rw c.states_fault-fault.ensures at c.unless_fault.ensures)
+pub returns-in-Some : goal.returns-in-Some
+returns-in-Some c = states_wrong _ _ _ _ c.in_ok-value.ensures _ (sym c.in-Some.ensures)
+
+pub returns : goal.returns
+returns c = states_goes _ _ _ _ c.in_ok-value.ensures (sym c.in_default.ensures)

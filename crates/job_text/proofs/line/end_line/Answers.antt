@@ -1,36 +1,9 @@
 -- `line::end_line` meets its contract: 21 where the line is not found, then 22 where its value is not `job`. Assumes nothing.
-use mathlib.Core.Path.{refl, subst}
-use borrow.Author.Tests.{not-true, not-false}
-use Rattle.job_values.specs.inner.Told.{EndAt}
 use Rattle.job_text.specs.Value.{end}
-use Rattle.job_text.specs.Job.{unlimited, end=}
-use Rattle.job_text.proofs.Lines.{wrong_fits, asked_missing, asked_malformed, asked_says}
+use Rattle.job_text.specs.Job.{end=}
+use Rattle.job_text.proofs.Lines.{asked_line}
 use Rattle.job_text.proofs.line.end_line.Goals as goal
 
-pub returns-then-not-span : goal.returns-then-not-span
-returns-then-not-span c =
-    let a = c.args in
-    let f = c.find_line-span in
-    asked_missing a.text.now a.at end= f.result f.ensures end unlimited a.line c.missing.result (not-true _ c.if-not-span.true) c.missing.ensures
-
-pub read_end-requires : goal.read_end-requires
-read_end-requires c = (c.find_line-span.ensures.there (not-false _ c.if-not-span.false)).within
-
-pub fault_at-requires : goal.fault_at-requires
-fault_at-requires c =
-    let a = c.args in
-    let f = c.find_line-span in
-    wrong_fits a.text.now a.at end= f.result f.ensures end _ (not-false _ c.if-not-span.false) (subst (EndAt a.text.now f.result.from f.result.end) c.in-Wrong.is c.read_end.ensures)
-
-pub returns-in-Wrong : goal.returns-in-Wrong
-returns-in-Wrong c =
-    let a = c.args in
-    let f = c.find_line-span in
-    asked_malformed a.text.now a.at end= f.result f.ensures end unlimited a.line c.fault_at.result (not-false _ c.if-not-span.false) _ (subst (EndAt a.text.now f.result.from f.result.end) c.in-Wrong.is c.read_end.ensures) c.fault_at.ensures
-
-pub returns-in-Right : goal.returns-in-Right
-returns-in-Right c =
-    let a = c.args in
-    let f = c.find_line-span in
-    asked_says a.text.now a.at end= f.result f.ensures end unlimited _ (not-false _ c.if-not-span.false)
-    (subst (EndAt a.text.now f.result.from f.result.end) c.in-Right.is c.read_end.ensures) refl
+pub returns-clause-read : goal.returns-clause-read
+returns-clause-read c =
+    rw c.line_says.ensures (asked_line c.args.text.now c.args.start end= c.in_ok-span.span c.in_ok-span.ensures (λ u. u) end c.read_end.result c.read_end.ensures)

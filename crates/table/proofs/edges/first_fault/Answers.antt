@@ -1,20 +1,20 @@
--- `edges::first_fault` meets its contract. The invariant: the edges below e are passed (`Passed`). Each test is one of the rows (`Faults`). The measure is
--- the edges left. Assumes nothing.
+-- `edges::first_fault` meets its contract: each of its tests is one of the rows (`Faults`). Assumes nothing.
 use mathlib.Core.Path.{◌∙◌}
 use native.Mathlib.Omega.{arith}
 use Rattle.table.proofs.Faults.{none_passed, all_passed, five_leaves, five_arrives, six, seven, one_passed, uncovered, covered}
 use Rattle.table.proofs.edges.first_fault.Goals as goal
+use Rattle.table.proofs.edges.first_fault.Goals.{then-n-leaves-via-then-n-leaves, then-n-leaves-via-else-n-leaves+then-n-to}
 
 pub loop-e-init : goal.loop-e-init
 loop-e-init c = none_passed _ _
 
 pub returns-then-n-leaves : goal.returns-then-n-leaves
 returns-then-n-leaves c =
-    c.refused_at.ensures ∙ five_leaves _ _ _ _ c.loop-e.invariant (omega arith) c.if-n-leaves.true
-
-pub returns-then-n-to : goal.returns-then-n-to
-returns-then-n-to c =
-    c.refused_at-then-n-to.ensures ∙ five_arrives _ _ _ _ c.loop-e.invariant (omega arith) (omega arith) (omega arith)
+    c.refused_at.ensures
+    ∙ elim c.then-n-leaves.branch [
+      | then-n-leaves-via-then-n-leaves w ↦ five_leaves _ _ _ _ c.loop-e.invariant (omega arith) w.if-n-leaves.true
+      | then-n-leaves-via-else-n-leaves+then-n-to w ↦ five_arrives _ _ _ _ c.loop-e.invariant (omega arith) w.if-n-leaves.false w.if-n-to.true
+    ]
 
 pub returns-then-leaves-before : goal.returns-then-leaves-before
 returns-then-leaves-before c =

@@ -1,7 +1,0 @@
--- `hoa_label::wanted_sign` meets its contract: each mark is told apart, and the others are one lemma. Assumes nothing.
-use borrow.Enum.Refused.{opened}
-use Rattle.hoa_label.proofs.Told.{other_sign}
-use Rattle.hoa_label.proofs.wanted_sign.Goals as goal
-
-pub returns-in_default : goal.returns-in_default
-returns-in_default c = other_sign c.args.room c.args.sign (opened c.in_default.in_default-own.keys3)

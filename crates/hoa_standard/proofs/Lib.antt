@@ -1,2 +1,0 @@
--- Sides: how the reader's cases go on, for its functions
-pub mod Sides

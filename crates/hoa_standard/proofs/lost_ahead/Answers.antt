@@ -1,7 +1,0 @@
--- `lost_ahead` meets its contract: one case is lost, the others are not. Assumes nothing.
-use borrow.Enum.Refused.{opened}
-use Rattle.hoa_standard.proofs.Sides.{others_found}
-use Rattle.hoa_standard.proofs.lost_ahead.Goals as goal
-
-pub returns-in_default : goal.returns-in_default
-returns-in_default c = others_found c.args.a (opened c.in_default.in_default-own.keys2)

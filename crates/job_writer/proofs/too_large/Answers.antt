@@ -1,9 +1,0 @@
--- `too_large` meets its contract: its two tests are those of row 23, in their order. Assumes nothing.
-use borrow.Author.Tests.{lt-ltb, le-ltb}
-use Rattle.job_writer.proofs.too_large.Goals as goal
-
-pub returns-then-n-gt-MOST_STATES : goal.returns-then-n-gt-MOST_STATES
-returns-then-n-gt-MOST_STATES c = simp (lt-ltb _ _ c.if-n-gt-MOST_STATES.true)
-
-pub returns : goal.returns
-returns c = simp (le-ltb _ _ c.if-n-gt-MOST_STATES.false)

@@ -8,7 +8,7 @@ ghost use Rattle.answer_form.specs.Given.{steps, list_given};
 ghost use Rattle.answer_check.specs.inner.{outset, LeftBy, WaitSays, GoSays, WalkSays};
 
 use answer_form::{WAITING, read_step};
-use job_values::part::find;
+use job_values::part::{alike, find};
 
 const COMMA: u8 = 44;
 
@@ -125,7 +125,7 @@ pub(crate) fn walk(
     requires { Even from.now to.now marks.now }
     ensures { WalkSays (list_given list.now) begin from.now to.now marks.now result }
 {
-    if list == b"-".as_slice() {
+    if alike(list, b"-") {
         return Ok(Walked {
             place: begin,
             count: 0,

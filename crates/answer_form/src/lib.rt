@@ -10,7 +10,7 @@ ghost use Rattle.job_text.specs.Text.{fields};
 ghost use Rattle.answer_form.specs.Given.{starts_with, ValueAt, step, steps, list_given, is_some, pair_given, ValuesAt, RunForm, where_given, refused_given, empty_given, no_run, FormOf};
 
 use job_values::number::read_number;
-use job_values::part::find;
+use job_values::part::{alike, find};
 
 const NEWLINE: u8 = 10;
 
@@ -73,11 +73,11 @@ fn value_then(text: &[u8], at: usize, word: &[u8]) -> Option<Value>
 }
 
 // An edge's number, or `stop` for a waiting edge.
-#[tactic(auto, using(job_values::proofs::Cut::same_pointwise, std::proofs::lemmas::Bool::Decides::nat_tests), unfolding(crate::specs::Given::step))]
+#[tactic(auto, using(std::proofs::lemmas::Bool::Decides::nat_tests), unfolding(crate::specs::Given::step))]
 pub fn read_step(bytes: &[u8]) -> Option<u32>
     ensures { number_given result ≡ step bytes.now }
 {
-    if bytes == b"stop".as_slice() {
+    if alike(bytes, b"stop") {
         return Some(WAITING);
     }
     read_number(bytes).filter(|edge| *edge != WAITING)
@@ -114,22 +114,22 @@ fn all_steps(bytes: &[u8]) -> bool
 }
 
 // Whether the bytes are a list: `-`, or edges with commas between.
-#[tactic(auto, using(job_values::proofs::Cut::same_pointwise), unfolding(crate::specs::Given::list_given))]
+#[tactic(auto, unfolding(crate::specs::Given::list_given))]
 fn is_list(bytes: &[u8]) -> bool
     ensures { result ≡ is_some (list_given bytes.now) }
 {
-    bytes == b"-".as_slice() || all_steps(bytes)
+    alike(bytes, b"-") || all_steps(bytes)
 }
 
 // A pair: a number exactly for Rabin.
-#[tactic(auto, using(job_values::proofs::Cut::same_pointwise), unfolding(crate::specs::Given::pair_given))]
+#[tactic(auto, unfolding(crate::specs::Given::pair_given))]
 fn read_pair(bytes: &[u8], rabin: bool) -> Option<u32>
     ensures { number_given result ≡ pair_given rabin bytes.now }
 {
     if rabin {
         return read_number(bytes);
     }
-    if bytes == b"-".as_slice() {
+    if alike(bytes, b"-") {
         return Some(0);
     }
     None

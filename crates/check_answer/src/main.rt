@@ -3,6 +3,7 @@
 // is told on standard error, and the program ends with a status that is not 0; an input that could not be read gets no answer.
 #![tactic(auto)]
 
+ghost use Rattle.std.proofs.Common.{arith};
 ghost use Rattle.std.specs.Prelude.{◌≡◌};
 ghost use Rattle.check_text.specs.Replied.{CheckReplied};
 ghost use Rattle.text_input.specs.Served.{Served};
@@ -19,7 +20,9 @@ const MOST_READ: usize = 77825;
 // A job text with an answer behind it, checked.
 struct CheckAnswer;
 
-impl Program<MOST_CHECKED> for CheckAnswer {
+impl Program<MOST_READ, MOST_CHECKED> for CheckAnswer {
+    ghost sizes = { (omega arith, omega arith) };
+
     ghost Reply = { CheckReplied };
 
     const UNREAD: &'static str = "check_answer: the input could not be read";

@@ -8,7 +8,7 @@ ghost use Rattle.check_text.specs.Replied.{top_text, fault_lines, checked_text, 
 ghost use Rattle.check_text.specs.inner.{JobEnds, HeardTo, Slight};
 
 use answer_check::{Checked, Fault, check_answer};
-use job_values::part::find;
+use job_values::part::{alike, find};
 use puts::{clear, put_held, put_word};
 
 // The longest answer text that is checked.
@@ -20,7 +20,7 @@ pub const MOST_CHECKED: usize = 128;
 const NEWLINE: u8 = 10;
 
 // How many bytes of the input are the job's: to the newline of the first line that is exactly `end=job`.
-#[tactic(auto, using(job_values::proofs::Cut::same_pointwise, crate::proofs::Splits::no_line_yet, crate::proofs::Splits::no_more_lines, crate::proofs::Splits::broken_line, crate::proofs::Splits::end_here, crate::proofs::Splits::other_line))]
+#[tactic(auto, using(crate::proofs::Splits::no_line_yet, crate::proofs::Splits::no_more_lines, crate::proofs::Splits::broken_line, crate::proofs::Splits::end_here, crate::proofs::Splits::other_line))]
 fn job_size(input: &[u8]) -> usize
     ensures { JobEnds input.now result }
 {
@@ -30,7 +30,7 @@ fn job_size(input: &[u8]) -> usize
         if input.len() <= end {
             return input.len();
         }
-        if &input[at..end] == b"end=job".as_slice() {
+        if alike(&input[at..end], b"end=job") {
             return end + 1;
         }
         at = end + 1;

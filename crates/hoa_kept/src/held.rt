@@ -5,7 +5,7 @@ ghost use Rattle.hoa_kept.specs.inner.Held.{RowRoom, EdgeRoom, none_yet, row_beg
 // The rows so far: how many, the last one's number and marks, how many edges are kept, and the largest of the start, the rows' numbers and the
 // targets. Then the kept edges' targets and marks, in the text's order, and for each state one more than its first edge's index (0: it has no row
 // yet) and the index behind its last one.
-#[derive(Drop)]
+#[derive(Clone, Copy)]
 pub struct RowsSoFar {
     pub count: usize,
     pub row: usize,

@@ -26,6 +26,10 @@ behind_add i k n lost e = refl
 
 -- ---- two bytes, one behind the other
 
+-- another first byte
+pub stand_other : (text : List ℕ) (i a b : ℕ) → (get_or text i 0 ≡ a → ⊥) → stand text i a b ≡ false
+stand_other text i a b h = rw (ne_eqb (get_or text i 0) a h)
+
 module _ (a b : ℕ) (some : 0 < a) (more : 0 < b) where
   -- in front of bytes
   pair_front : (bs : List ℕ) → begins (a ∷ b ∷ []) bs ≡ (eqb (get_or bs 0 0) a && eqb (get_or bs 1 0) b)

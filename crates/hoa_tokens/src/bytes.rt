@@ -23,7 +23,7 @@ pub(crate) fn is_capital(byte: u8) -> bool
 pub(crate) fn is_letter(byte: u8) -> bool
     ensures { result ≡ is_letter byte }
 {
-    byte.is_ascii_alphabetic() || byte == b'_'
+    is_capital(byte) || byte == b'_' || byte.is_ascii_lowercase()
 }
 
 // Whether a word may go on with the byte.
@@ -39,5 +39,5 @@ pub(crate) fn is_name(byte: u8) -> bool
 pub(crate) fn is_blank(byte: u8) -> bool
     ensures { result ≡ is_blank byte }
 {
-    matches!(byte, b' ' | b'\t' | b'\n' | b'\r')
+    byte == b' ' || byte == b'\t' || byte == b'\n' || byte == b'\r'
 }

@@ -11,18 +11,18 @@ struct Spot {
     depth: usize,
 }
 
-// The place behind what stands at `at` in a comment, and how many comments are open there.
+// The place behind what stands at `at` in a comment, and how many comments are open there. Most bytes are neither `/` nor `*`, so one look tells.
 fn inside(text: &[u8], at: usize, depth: usize) -> Spot
     requires { Inside text.now at depth }
     ensures { Spotted text.now at depth result }
 {
     let rest = &text[at..];
-    if rest.starts_with(b"/*") {
+    if text[at] == b'/' && rest.starts_with(b"/*") {
         Spot {
             at: at + 2,
             depth: depth + 1,
         }
-    } else if rest.starts_with(b"*/") {
+    } else if text[at] == b'*' && rest.starts_with(b"*/") {
         Spot {
             at: at + 2,
             depth: depth - 1,
@@ -59,7 +59,7 @@ fn pass(text: &[u8], at: usize) -> Result<Option<usize>, usize>
     if is_blank(text[at]) {
         return Ok(Some(at + 1));
     }
-    if !text[at..].starts_with(b"/*") {
+    if text[at] != b'/' || !text[at..].starts_with(b"/*") {
         return Ok(None);
     }
     match comment_end(text, at + 2) {

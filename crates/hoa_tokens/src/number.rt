@@ -39,15 +39,17 @@ fn spell(digits: &[u8]) -> Kind
     Kind::Int(value as u32)
 }
 
-// The number that the digits spell, if it is one: no leading zeros.
+// The number that the digits spell, if it is one: no leading zeros. A single digit, as most numbers are, goes its own way.
 fn digits_kind(digits: &[u8]) -> Kind
     ensures { Says result (digits_token digits.now) }
 {
-    if 1 < digits.len() && digits[0] == b'0' {
-        Kind::Bad
-    } else {
-        spell(digits)
+    if digits.len() <= 1 {
+        return spell(digits);
     }
+    if digits[0] == b'0' {
+        return Kind::Bad;
+    }
+    spell(digits)
 }
 
 // The number at `at`: the whole run of digits.

@@ -10,11 +10,13 @@ fn past(text: &[u8], at: usize) -> usize
     requires { Unquoted text.now at }
     ensures { Past text.now at result }
 {
-    if text[at] == b'\\' && at + 1 < text.len() {
-        at + 2
-    } else {
-        at + 1
+    if text[at] != b'\\' {
+        return at + 1;
     }
+    if text.len() - at == 1 {
+        return at + 1;
+    }
+    at + 2
 }
 
 // The place of the closing quote from `at` on, if there is one.

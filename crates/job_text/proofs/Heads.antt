@@ -5,9 +5,9 @@ use mathlib.Core.List.{List}
 use mathlib.Core.Option.{Option, some, none}
 use Prim.Native.Nat.{ℕ, ◌≤◌}
 use native.Mathlib.Omega.{arith}
-use lib.Dec.{leb, eqb}
+use lib.Dec.{ltb, leb, eqb}
 use lib.ListN.{length, drop}
-use borrow.Author.Tests.{le-ltb, leb-true}
+use borrow.Author.Tests.{ltb-false, le-ltb, leb-true}
 use Rattle.job_values.specs.declared.value.Form.{Form}
 use Rattle.job_values.specs.declared.value.Kind.{Kind}
 use Rattle.job_text.specs.declared.line.Fault.{Fault}
@@ -15,7 +15,7 @@ use Rattle.job_text.specs.declared.line.LineStart.{LineStart}
 use Rattle.job_text.specs.Text.{Lines, lines}
 use Rattle.digits.specs.Digit.{digit}
 use Rattle.job_text.specs.Value.{number, most_number, at_most, leading_zero, spelt}
-use Rattle.job_text.specs.Job.{Keyed, missing, value, keyed, Cause, formed, valued, asked, above, unlimited, most_job_states, states=, start=, Found, refused, next, kind_line, count_lines, state_lines}
+use Rattle.job_text.specs.Job.{Keyed, missing, value, keyed, Cause, says, fault, limited, formed, valued, asked, above, unlimited, most_job_states, states=, start=, Found, refused, next, kind_line, count_lines, state_lines}
 use Rattle.job_text.specs.Given.{Blamed, from_line, SaysTo}
 use Rattle.job_text.proofs.Text.{by_test}
 
@@ -23,6 +23,31 @@ use Rattle.job_text.proofs.Text.{by_test}
 pub blamed_on : {A B : Type 0} (text : List ℕ) (first : Found A) (said : Found B) (f : Fault) → Blamed text first f
     → ((x : Cause) (p : ℕ) → first ≡ refused x p → said ≡ refused x p) → Blamed text said f
 blamed_on text first said f b h = record { why = b.why; place = b.place; is = h b.why b.place b.is; worded = b.worded }
+
+-- ---- a number that a line says is within its limit
+
+-- lines that say the same
+pub says_inj : {A : Type 0} {a b : A} {ls ms : Lines} → says a ls ≡ says b ms → a ≡ b
+says_inj e = cc
+
+fault_says : {A : Type 0} {a : A} {n : Cause} {ls : Lines} → fault n ≡ says a ls → ⊥
+fault_says e = let z : ◌≡◌ {A = ℕ} 0 1 = cc in omega arith
+
+limited_says : (key : List ℕ) (most m : ℕ) (ls ms : Lines) (n : ℕ) → limited key (above most) m ls ≡ says n ms → n ≤ most
+limited_says key most m ls ms n e =
+    by_test (ltb most m) (λ t. absurd (fault_says (rw t at e))) (λ t. let q : m ≡ n = says_inj (rw t at e) in omega (arith, ltb-false most m t))
+
+formed_says : (key : List ℕ) (most : ℕ) (v : List ℕ) (o : Option ℕ) (ls ms : Lines) (n : ℕ) → formed key number (above most) v o ls ≡ says n ms → n ≤ most
+formed_says key most v none ls ms n e = absurd (fault_says e)
+formed_says key most v (some m) ls ms n e = limited_says key most m ls ms n e
+
+valued_says : (key : List ℕ) (most : ℕ) (k : Keyed) (ms : Lines) (n : ℕ) → valued key number (above most) k ≡ says n ms → n ≤ most
+valued_says key most missing ms n e = absurd (fault_says e)
+valued_says key most (value v ls) ms n e = formed_says key most v (number v) ls ms n e
+
+-- the number is within the key's limit
+pub says_below : (key : List ℕ) (most : ℕ) (ls ms : Lines) (n : ℕ) → asked key number (above most) ls ≡ says n ms → n ≤ most
+says_below key most ls ms n e = valued_says key most (keyed key ls) ms n e
 
 -- ---- the form of a number is limit enough
 

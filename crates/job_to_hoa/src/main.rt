@@ -3,6 +3,7 @@
 // write that fails is told on standard error, and the program ends with a status that is not 0.
 #![tactic(auto)]
 
+ghost use Rattle.std.proofs.Common.{arith};
 ghost use Rattle.std.specs.Prelude.{◌≡◌};
 ghost use Rattle.hoa_text.specs.Turned.{Turned};
 ghost use Rattle.text_input.specs.Served.{Served};
@@ -18,7 +19,9 @@ const MOST_READ: usize = 12289;
 // A job text, turned to the Hanoi format.
 struct JobToHoa;
 
-impl Program<MOST_WRITTEN> for JobToHoa {
+impl Program<MOST_READ, MOST_WRITTEN> for JobToHoa {
+    ghost sizes = { (omega arith, omega arith) };
+
     ghost Reply = { Turned };
 
     const UNREAD: &'static str = "job_to_hoa: the job could not be read";

@@ -8,6 +8,7 @@ ghost use Rattle.job_values.specs.inner.Field.{Within};
 ghost use Rattle.job_values.specs.inner.Told.{EdgeAt, WordAt, FormAt, EndAt, KindAt, ListAt};
 
 use crate::field::{marks_field, number_field, word_run};
+use crate::part::alike;
 
 const COMMA: u8 = b',';
 
@@ -52,12 +53,11 @@ pub fn read_edge(text: &[u8], at: usize, end: usize) -> Result<Edge, usize>
 }
 
 // A value that must be one word.
-#[tactic(auto, using(crate::proofs::Cut::same_pointwise))]
 fn read_word(text: &[u8], at: usize, end: usize, word: &[u8]) -> Result<(), usize>
     requires { Within text.now at end }
     ensures { WordAt text.now at end word.now result }
 {
-    if &text[at..end] == word {
+    if alike(&text[at..end], word) {
         return Ok(());
     }
     Err(word_run(text, at, end, word))

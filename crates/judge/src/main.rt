@@ -3,6 +3,7 @@
 // error, and the program ends with a status that is not 0; a text that could not be read gets no answer.
 #![tactic(auto)]
 
+ghost use Rattle.std.proofs.Common.{arith};
 ghost use Rattle.std.specs.Prelude.{◌≡◌};
 ghost use Rattle.judge_text.specs.Replied.{Replied};
 ghost use Rattle.text_input.specs.Served.{Served};
@@ -18,7 +19,9 @@ const MOST_READ: usize = 12289;
 // A job text, judged.
 struct Judge;
 
-impl Program<MOST_PRINTED> for Judge {
+impl Program<MOST_READ, MOST_PRINTED> for Judge {
+    ghost sizes = { (omega arith, omega arith) };
+
     ghost Reply = { Replied };
 
     const UNREAD: &'static str = "judge: the job could not be read";

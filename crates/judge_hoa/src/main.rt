@@ -3,6 +3,7 @@
 // fails is told on standard error, and the program ends with a status that is not 0; a text that could not be read gets no answer.
 #![tactic(auto)]
 
+ghost use Rattle.std.proofs.Common.{arith};
 ghost use Rattle.std.specs.Prelude.{◌≡◌};
 ghost use Rattle.judge_text.specs.HoaReplied.{HoaReplied};
 ghost use Rattle.text_input.specs.Served.{Served};
@@ -18,7 +19,9 @@ const MOST_READ: usize = 1048577;
 // A text of the Hanoi format, judged.
 struct JudgeHoa;
 
-impl Program<MOST_PRINTED> for JudgeHoa {
+impl Program<MOST_READ, MOST_PRINTED> for JudgeHoa {
+    ghost sizes = { (omega arith, omega arith) };
+
     ghost Reply = { HoaReplied };
 
     const UNREAD: &'static str = "judge_hoa: the text could not be read";

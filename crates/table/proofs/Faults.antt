@@ -3,6 +3,7 @@ use Rattle.table.specs.declared.Refusal.{Refusal}
 use Rattle.std.specs.Prelude.{Result, Ok}
 use mathlib.Core.Path.{◌≡◌, refl, sym, ap, ◌∙◌}
 use mathlib.Core.Bool.{Bool, true, false, not, true≢false}
+use mathlib.Core.List.{List}
 use mathlib.Core.Logic.{◌↔◌}
 use Prim.Native.Nat.{ℕ, zero, suc, ◌+◌, ◌-◌, ◌^◌, ◌≤◌, ◌<◌}
 use native.Mathlib.Nat.{sub-zero}
@@ -15,7 +16,7 @@ use Rattle.marks.specs.Mark.{Covers, first_marks, width}
 use Rattle.marks.proofs.Cases.{below}
 use Rattle.marks.proofs.Laws.{has_first, Has-fits, fits_has}
 use Rattle.table.specs.declared.Refusal.{Refusal}
-use Rattle.table.specs.Table.{Table, borne}
+use Rattle.table.specs.Table.{Table, lent, borne}
 use Rattle.table.specs.Refusal.{wrong_order, wrong_end, edge_refusal, refused}
 use Rattle.table.specs.inner.Looks.{before}
 
@@ -89,3 +90,10 @@ uncovered u x {b} w says h =
 
 pub covered : (u x : ℕ) {b : Bool} → ((b ≡ true) ↔ Covers (first_marks width u) x) → not b ≡ false → x < 2 ^ u
 covered u x {b} says h = covered_small u x (says.0 (not-false b h))
+
+-- rows 5 to 7 do not look at the start
+pub start_aside : (n start : ℕ) (from to marks : List ℕ) (u e k : ℕ)
+    → edge_refusal (lent n start from to marks) u e k ≡ edge_refusal (lent n 0 from to marks) u e k
+start_aside n start from to marks u e zero = refl
+start_aside n start from to marks u zero (suc k) = rw (start_aside n start from to marks u 1 k)
+start_aside n start from to marks u (suc e) (suc k) = rw (start_aside n start from to marks u (suc (suc e)) k)

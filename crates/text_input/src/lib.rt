@@ -33,8 +33,11 @@ pub fn fail(rt: &impl Eprint, what: &str, reason: io::Error) -> ExitCode
     ExitCode::FAILURE
 }
 
-// What a program writes for a text that it reads: a reply to every text, of at most ROOM bytes.
-pub trait Program<const ROOM: usize> {
+// What a program writes for a text that it reads: a reply of at most ROOM bytes to every text, of which it reads at most MOST bytes.
+pub trait Program<const MOST: usize, const ROOM: usize> {
+    // An array may have so many bytes.
+    ghost sizes: { (MOST < 2 ^ 63) × (ROOM < 2 ^ 63) };
+
     // Whether the reply to a text may be what stands at the beginning of a buffer, up to a size.
     ghost Reply: { List ℕ → List ℕ → ℕ → Type 0 };
 
@@ -50,30 +53,30 @@ pub trait Program<const ROOM: usize> {
 }
 
 // Reads a text of at most MOST bytes and writes the program's reply to it; what fails is told, and gives a status that is not 0.
-pub fn serve<P: Program<ROOM>, const MOST: usize, const ROOM: usize, E: Eprint, R: Read, W: Write>(
-    rt: &E,
-    input: &mut R,
-    output: &mut W,
-) -> ExitCode
-    requires most { MOST < 2 ^ 63 }
-    requires room { ROOM < 2 ^ 63 }
+pub fn serve<
+    P: Program<MOST, ROOM>,
+    const MOST: usize,
+    const ROOM: usize,
+    E: Eprint,
+    R: Read,
+    W: Write,
+>(rt: &E, input: &mut R, output: &mut W) -> ExitCode
     ensures { result ≡ ExitCode.SUCCESS → Served MOST P.Reply (R.remaining input.old) (R.remaining input.new)
         (W.contents output.old) (W.contents output.new) }
 {
     let mut text = [0u8; MOST];
     match read_input(input, &mut text) {
-        Ok(count) => answer::<P, ROOM, E, W>(rt, output, &text[..count]),
+        Ok(count) => answer::<P, MOST, ROOM, E, W>(rt, output, &text[..count]),
         Err(reason) => fail(rt, P::UNREAD, reason),
     }
 }
 
 // Writes the program's reply to a text.
-fn answer<P: Program<ROOM>, const ROOM: usize, E: Eprint, W: Write>(
+fn answer<P: Program<MOST, ROOM>, const MOST: usize, const ROOM: usize, E: Eprint, W: Write>(
     rt: &E,
     output: &mut W,
     text: &[u8],
 ) -> ExitCode
-    requires { ROOM < 2 ^ 63 }
     ensures { result ≡ ExitCode.SUCCESS → Wrote (P.Reply text.now) (W.contents output.old) (W.contents output.new) }
 {
     let mut out = [0u8; ROOM];

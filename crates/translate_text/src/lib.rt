@@ -113,6 +113,7 @@ pub fn translate_text(text: &[u8], out: &mut [u8; MOST_WRITTEN]) -> usize
             k,
             out,
         ),
-        Acceptance::Streett(_) | Acceptance::Rabin(_) => tell_refused(4, 0, 0, out),
+        Acceptance::Streett(_) => tell_refused(4, 0, 0, out),
+        Acceptance::Rabin(_) => tell_refused(4, 0, 0, out),
     }
 }

@@ -1,6 +1,5 @@
 -- `translate_text` meets its contract: what the reader refuses is told (`reader_refuses`); what it reads is translated from parts of the tables that are as
 -- long as the edges are many (`froms_reach`, ..) if its kind is buchi (`buchi_turned`), and else refused by 4. Assumes nothing.
-use mathlib.Core.Logic.{inl, inr}
 use Rattle.job_text.proofs.Tables.{froms_reach, tos_reach, sets_reach}
 use Rattle.translate_text.proofs.Translating.{reader_refuses, buchi_turned, streett_turned, rabin_turned}
 use Rattle.translate_text.proofs.translate_text.Goals as goal
@@ -24,7 +23,8 @@ returns-in-Buchi c =
 
 pub returns-in-Streett : goal.returns-in-Streett
 returns-in-Streett c =
-    elim c.in-Streett.is [
-      | inl w ↦ streett_turned c.read-job.ensures c.in_default.is w.1 c.tell_refused-in-Streett.ensures
-      | inr w ↦ rabin_turned c.read-job.ensures c.in_default.is w.1 c.tell_refused-in-Streett.ensures
-    ]
+    streett_turned c.read-job.ensures c.in_default.is c.in-Streett.is c.tell_refused-in-Streett.ensures
+
+pub returns-in-Rabin : goal.returns-in-Rabin
+returns-in-Rabin c =
+    rabin_turned c.read-job.ensures c.in_default.is c.in-Rabin.is c.tell_refused-in-Rabin.ensures

@@ -36,6 +36,7 @@ pub fn read_acc_name(text: &[u8], at: usize) -> Result<usize, BadToken>
 }
 
 // The STRING of name:, and the byte behind it.
+#[tactic(auto, using(crate::proofs::Passing::name_passed))]
 pub fn read_name(text: &[u8], at: usize) -> Result<usize, BadToken>
     requires { at ≤ length text.now }
     ensures { Passes text.now at name_text items result }

@@ -16,7 +16,7 @@ pub fn find(bytes: &[u8], from: usize, byte: u8) -> usize
 }
 
 // Whether the two are the same bytes.
-#[tactic(auto, using(crate::proofs::Cut::same_pointwise, crate::proofs::Cut::same_length))]
+#[tactic(auto, using(crate::proofs::Cut::same_pointwise))]
 pub fn alike(bytes: &[u8], word: &[u8]) -> bool
     ensures { result ≡ same bytes.now word.now }
 {

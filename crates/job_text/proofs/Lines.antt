@@ -15,18 +15,20 @@ use Rattle.std.specs.List.{starts_with}
 use Rattle.std.specs.Prelude.{Result, Ok, Err}
 use Rattle.job_values.specs.Column.{given}
 use Rattle.job_values.specs.inner.Field.{Within}
-use Rattle.job_values.specs.inner.Told.{Unformed, ValueAs}
+use Rattle.job_values.specs.inner.Told.{Unformed, ValueAs, FormAt}
+use Rattle.job_values.specs.declared.value.Form.{Form}
+use Rattle.job_values.specs.declared.value.Form.TheVariants.{One}
 use Rattle.job_values.proofs.Fields.{within_on}
 use Rattle.job_values.specs.inner.Field.{FieldAt}
 use Rattle.job_values.specs.declared.field.Run.{Run}
 use Rattle.job_values.proofs.Columns.{unformed_wrong, number_said, number_unformed}
-use Rattle.job_text.specs.Value.{number}
+use Rattle.job_text.specs.Value.{number, text_form}
 use Rattle.job_text.specs.Text.{newline, line, lines, same, begins, ahead, FirstAt}
 use Rattle.job_text.specs.declared.line.Span.{Span}
 use Rattle.job_text.specs.declared.line.Fault.{Fault}
 use Rattle.job_text.specs.declared.line.LineStart.{LineStart}
-use Rattle.job_text.specs.Job.{Keyed, missing, keyed, unformed, large, ColumnOf, asked, Found, found, placed, next, unlimited, left_out, perhaps}
-use Rattle.job_text.specs.Given.{Standing, SaidAs, from_line, line_says, fault_at, Blamed}
+use Rattle.job_text.specs.Job.{Keyed, missing, keyed, unformed, large, ColumnOf, asked, Found, found, placed, next, unlimited, left_out, perhaps, form=, form_line}
+use Rattle.job_text.specs.Given.{Standing, SaidAs, ReadAt, from_line, line_says, fault_at, Blamed}
 use Rattle.job_text.proofs.Text.{lines_cut, lines_uncut, unended}
 
 drop_take : (k n : ℕ) (xs : List ℕ) → drop k (take n xs) ≡ take (n - k) (drop k xs)
@@ -162,3 +164,8 @@ module _ (text : List ℕ) (start : LineStart) (key : List ℕ) (r : Span) (s : 
     perhaps_line a read v =
         line_read read v (from_line text start (perhaps key form a))
         (ap (λ (k : Keyed). left_out a (asked key form unlimited) k start.line (lines (drop start.at text))) s.is)
+
+-- the form's line, read where its key stands
+pub form_read : (text : List ℕ) (start : LineStart) (r : Span) → Standing text start.at form= r → (read : Result Form ℕ) → FormAt text r.from r.end read
+    → (said : Result (Form × LineStart) Fault) → said ≡ line_says start r read → ReadAt text form_line start said
+form_read text start r s read v said q = rw q (perhaps_line text start form= r s (λ f. f) text_form One read v)

@@ -133,6 +133,7 @@ pub(crate) fn number_line(
 }
 
 // The form's line, which may be left out: the first one.
+#[tactic(auto, using(crate::proofs::Lines::form_read))]
 pub(crate) fn form_line(text: &[u8], start: LineStart) -> Result<(Form, LineStart), Fault>
     requires { start.line < 65536 }
     ensures read { ReadAt text.now form_line start result }

@@ -77,6 +77,21 @@ starts_begins text at key e =
     let whole : take (length text - at) (drop at text) ≡ drop at text = take_all (length text - at) (drop at text) (omega (arith, length-drop at text)) in
     same_pointwise (take (length key) (drop at text)) key ∙ pointwise_turned (take (length key) (drop at text)) key ∙ sym (rw whole at e)
 
+-- one that begins with the other and is no longer is the other
+pub begins_whole : {r : Bool} (bs word : List ℕ) → r ≡ starts_with nat_eq word bs → length word ≤ length bs → r ≡ pointwise nat_eq bs word
+begins_whole bs word e n =
+    let whole : take (length bs) word ≡ word = take_all (length bs) word n in
+    e ∙ ap (λ (ys : List ℕ). pointwise nat_eq bs ys) whole
+
+-- from the first byte on is all
+pub from_first : (j : ℕ) (bs : List ℕ) → j ≡ 0 → take (length bs - j) (drop j bs) ≡ bs
+from_first j bs q = let here : take (length bs - 0) bs ≡ bs = take_all (length bs - 0) bs (omega arith) in rw q here
+
+-- both from the first byte on
+pub from_whole : {r : Bool} (j k : ℕ) (bs word : List ℕ) → r ≡ pointwise nat_eq (take (length bs - j) (drop j bs)) (take (length word - k) (drop k word)) → j ≡ 0 → k ≡ 0
+    → r ≡ pointwise nat_eq bs word
+from_whole j k bs word e p q = e ∙ rw (from_first j bs p, from_first k word q)
+
 -- ---- the first key that is the name
 
 module _ {X A : Type 0} (f : X → List ℕ × A) (bs : List ℕ) (xs : List X) (i : ℕ) (x : X) (other : A) (l : i < length xs) (is : x ≡ get_or xs i x) where

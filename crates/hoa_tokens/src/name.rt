@@ -9,7 +9,7 @@ use crate::bytes::{is_capital, is_name};
 use crate::{Found, Header, Kind, Word};
 
 // What the first key that is the name stands for, or `other`.
-#[tactic(auto, using(crate::proofs::Runs::among_found, crate::proofs::Runs::among_other))]
+#[tactic(auto, using(crate::proofs::Runs::among_found, crate::proofs::Runs::among_other, crate::proofs::Runs::begins_whole, crate::proofs::Runs::from_whole))]
 fn among<T: Copy>(name: &[u8], keys: &[(&[u8], T)], other: T) -> T
     ensures { result ≡ among name.now (map lent_key keys.now) other }
 {

@@ -55,7 +55,9 @@ fn refused(number: u32) -> Result<(), Refusal>
     Err(Refusal { number, place: 0 })
 }
 
-// Rows 1 to 7: the number and place of the first cause in the stated order, or that there is none.
+// Rows 1 to 7: the number and place of the first cause in the stated order, or that there is none. Where the compiler leaves it a
+// call of its own, a refusal by rows 1 to 4 takes up to seven tenths more instructions.
+#[inline(always)]
 pub fn check(
     n: u32,
     start: u32,

@@ -11,7 +11,7 @@ ghost use Rattle.text_input.specs.Served.{Served};
 use check_text::{MOST_CHECKED, check_text};
 use std::io::{Read, Write};
 use std::process::ExitCode;
-use text_input::Program;
+use text_input::SizedProgram;
 
 // One byte more than the longest job (12,288) and the longest answer text (65,536) have together: with so many, whatever follows changes nothing
 // (crates/check_text/proofs/Settled.antt).
@@ -20,7 +20,7 @@ const MOST_READ: usize = 77825;
 // A job text with an answer behind it, checked.
 struct CheckAnswer;
 
-impl Program<MOST_READ, MOST_CHECKED> for CheckAnswer {
+impl SizedProgram<MOST_READ, MOST_CHECKED> for CheckAnswer {
     ghost sizes = { (omega arith, omega arith) };
 
     ghost Reply = { CheckReplied };
@@ -39,7 +39,7 @@ fn serve<R: Read, W: Write>(rt: &impl Eprint, input: &mut R, output: &mut W) -> 
     ensures { result ≡ ExitCode.SUCCESS → Served MOST_READ CheckReplied (R.remaining input.old) (R.remaining input.new)
         (W.contents output.old) (W.contents output.new) }
 {
-    text_input::serve::<CheckAnswer, MOST_READ, MOST_CHECKED, _, R, W>(rt, input, output)
+    text_input::serve_sized::<CheckAnswer, MOST_READ, MOST_CHECKED, _, R, W>(rt, input, output)
 }
 
 fn main(rt: HostRuntime) -> ExitCode {

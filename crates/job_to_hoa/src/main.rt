@@ -11,7 +11,7 @@ ghost use Rattle.text_input.specs.Served.{Served};
 use hoa_text::{MOST_WRITTEN, job_to_hoa};
 use std::io::{Read, Write};
 use std::process::ExitCode;
-use text_input::Program;
+use text_input::SizedProgram;
 
 // One byte more than a text may have: with so many it is refused whatever follows, and nothing more is read.
 const MOST_READ: usize = 12289;
@@ -19,7 +19,7 @@ const MOST_READ: usize = 12289;
 // A job text, turned to the Hanoi format.
 struct JobToHoa;
 
-impl Program<MOST_READ, MOST_WRITTEN> for JobToHoa {
+impl SizedProgram<MOST_READ, MOST_WRITTEN> for JobToHoa {
     ghost sizes = { (omega arith, omega arith) };
 
     ghost Reply = { Turned };
@@ -38,7 +38,7 @@ fn serve<R: Read, W: Write>(rt: &impl Eprint, input: &mut R, output: &mut W) -> 
     ensures { result ≡ ExitCode.SUCCESS → Served MOST_READ Turned (R.remaining input.old) (R.remaining input.new)
         (W.contents output.old) (W.contents output.new) }
 {
-    text_input::serve::<JobToHoa, MOST_READ, MOST_WRITTEN, _, R, W>(rt, input, output)
+    text_input::serve_sized::<JobToHoa, MOST_READ, MOST_WRITTEN, _, R, W>(rt, input, output)
 }
 
 fn main(rt: HostRuntime) -> ExitCode {

@@ -11,7 +11,7 @@ ghost use Rattle.text_input.specs.Served.{Served};
 use judge_text::{MOST_PRINTED, judge_hoa};
 use std::io::{Read, Write};
 use std::process::ExitCode;
-use text_input::Program;
+use text_input::SizedProgram;
 
 // One byte more than a text may have: with so many it is refused whatever follows, and nothing more is read.
 const MOST_READ: usize = 1048577;
@@ -19,7 +19,7 @@ const MOST_READ: usize = 1048577;
 // A text of the Hanoi format, judged.
 struct JudgeHoa;
 
-impl Program<MOST_READ, MOST_PRINTED> for JudgeHoa {
+impl SizedProgram<MOST_READ, MOST_PRINTED> for JudgeHoa {
     ghost sizes = { (omega arith, omega arith) };
 
     ghost Reply = { HoaReplied };
@@ -38,7 +38,7 @@ fn serve<R: Read, W: Write>(rt: &impl Eprint, input: &mut R, output: &mut W) -> 
     ensures { result ≡ ExitCode.SUCCESS → Served MOST_READ HoaReplied (R.remaining input.old) (R.remaining input.new)
         (W.contents output.old) (W.contents output.new) }
 {
-    text_input::serve::<JudgeHoa, MOST_READ, MOST_PRINTED, _, R, W>(rt, input, output)
+    text_input::serve_sized::<JudgeHoa, MOST_READ, MOST_PRINTED, _, R, W>(rt, input, output)
 }
 
 fn main(rt: HostRuntime) -> ExitCode {

@@ -10,7 +10,7 @@ ghost use Rattle.text_input.specs.Served.{Served};
 
 use std::io::{Read, Write};
 use std::process::ExitCode;
-use text_input::Program;
+use text_input::SizedProgram;
 use translate_text::{MOST_WRITTEN, translate_text};
 
 // One byte more than a text may have: with so many it is refused whatever follows, and nothing more is read.
@@ -19,7 +19,7 @@ const MOST_READ: usize = 12289;
 // A job text, translated.
 struct Translate;
 
-impl Program<MOST_READ, MOST_WRITTEN> for Translate {
+impl SizedProgram<MOST_READ, MOST_WRITTEN> for Translate {
     ghost sizes = { (omega arith, omega arith) };
 
     ghost Reply = { Turned };
@@ -38,7 +38,7 @@ fn serve<R: Read, W: Write>(rt: &impl Eprint, input: &mut R, output: &mut W) -> 
     ensures { result ≡ ExitCode.SUCCESS → Served MOST_READ Turned (R.remaining input.old) (R.remaining input.new)
         (W.contents output.old) (W.contents output.new) }
 {
-    text_input::serve::<Translate, MOST_READ, MOST_WRITTEN, _, R, W>(rt, input, output)
+    text_input::serve_sized::<Translate, MOST_READ, MOST_WRITTEN, _, R, W>(rt, input, output)
 }
 
 fn main(rt: HostRuntime) -> ExitCode {
